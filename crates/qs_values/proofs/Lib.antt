@@ -1,0 +1,4 @@
+pub mod AngleLemmas
+pub mod LowestLemmas
+pub mod NumberLemmas
+pub mod OneQuotient

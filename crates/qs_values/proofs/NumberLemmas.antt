@@ -1,0 +1,58 @@
+-- Sums and products of the parts of fractions fit 128 bits.
+use Rattle.std.proofs.Common.{◌≡◌, ◌≢◌, ◌<◌, ◌^◌, arith, zero, suc, ℤ, pos, negsuc, ◌<ℤ◌, ◌+ℤ◌, ◌-ℤ◌, ◌*ℤ◌, unsigned_abs, FitsSigned, to_z, of_z, Err, inr}
+use mir.Syntax.{w128}
+use Rattle.std.proofs.lemmas.Nat.{mul-lt}
+use Rattle.std.proofs.lemmas.Int.{ints, fits_signed_from_abs, unsigned_abs-mul, to_z-of_z}
+use Rattle.qs_values.specs.declared.refusal.NumRefusal.{NumRefusal}
+use Rattle.qs_values.specs.declared.refusal.NumRefusal.TheVariants.{TooWide, PiTimesPi, ByZero, ByPi}
+use Rattle.qs_values.specs.Number.{QuotientIs, NumberIs}
+
+-- a number below 10^37 in size fits
+pub fits_below : (z : ℤ) → unsigned_abs z < 10 ^ 37 → FitsSigned w128 z
+fits_below z h = fits_signed_from_abs w128 z (omega arith)
+
+pub product_below : (a b : ℤ) → unsigned_abs a < 10 ^ 18 → unsigned_abs b < 10 ^ 18 → unsigned_abs (a *ℤ b) < 10 ^ 36
+product_below a b p q = rw (unsigned_abs-mul a b) (mul-lt (unsigned_abs a) (unsigned_abs b) (10 ^ 18) (10 ^ 18) p q)
+
+pub sum_below : (x y : ℤ) → unsigned_abs x < 10 ^ 36 → unsigned_abs y < 10 ^ 36 → unsigned_abs (x +ℤ y) < 10 ^ 37
+sum_below x y p q = omega (arith, ints)
+
+pub difference_below : (x y : ℤ) → unsigned_abs x < 10 ^ 36 → unsigned_abs y < 10 ^ 36 → unsigned_abs (x -ℤ y) < 10 ^ 37
+difference_below x y p q = omega (arith, ints)
+
+-- a number as the code has it, through its bits
+abbrev pub coded : ℤ → ℤ
+coded z = to_z w128 (of_z w128 z)
+
+pub coded_is : (a : ℤ) → unsigned_abs a < 10 ^ 37 → coded a ≡ a
+coded_is a h = to_z-of_z w128 a (fits_below a h)
+
+pub factor_is : (a : ℤ) → unsigned_abs a < 10 ^ 18 → coded a ≡ a
+factor_is a h = coded_is a (omega arith)
+
+-- a product, a sum of two products and a difference of two, as the code computes them
+pub product_is : (a b : ℤ) → unsigned_abs a < 10 ^ 18 → unsigned_abs b < 10 ^ 18 → coded (coded a *ℤ coded b) ≡ a *ℤ b
+product_is a b p q = let small = product_below a b p q in rw (factor_is a p, factor_is b q) (coded_is (a *ℤ b) (omega arith))
+
+pub sum_is : (a b c d : ℤ) → unsigned_abs a < 10 ^ 18 → unsigned_abs b < 10 ^ 18 → unsigned_abs c < 10 ^ 18 → unsigned_abs d < 10 ^ 18
+    → coded (coded (coded a *ℤ coded b) +ℤ coded (coded c *ℤ coded d)) ≡ (a *ℤ b) +ℤ (c *ℤ d)
+sum_is a b c d p q r s = rw (product_is a b p q, product_is c d r s) (coded_is ((a *ℤ b) +ℤ (c *ℤ d)) (sum_below (a *ℤ b) (c *ℤ d) (product_below a b p q) (product_below c d r s)))
+
+pub difference_is : (a b c d : ℤ) → unsigned_abs a < 10 ^ 18 → unsigned_abs b < 10 ^ 18 → unsigned_abs c < 10 ^ 18 → unsigned_abs d < 10 ^ 18
+    → coded (coded (coded a *ℤ coded b) -ℤ coded (coded c *ℤ coded d)) ≡ (a *ℤ b) -ℤ (c *ℤ d)
+difference_is a b c d p q r s = rw (product_is a b p q, product_is c d r s) (coded_is ((a *ℤ b) -ℤ (c *ℤ d)) (difference_below (a *ℤ b) (c *ℤ d) (product_below a b p q) (product_below c d r s)))
+
+-- a refused pi part refuses the number
+pub refused_pi : (an ad bn bd : ℤ) (e : NumRefusal) → bd ≢ pos 0 → QuotientIs bn bd (Err e) → NumberIs an ad bn bd (Err e)
+refused_pi an ad bn bd TooWide nonzero h = inr h.1
+refused_pi an ad bn bd ByZero nonzero h = nonzero h
+refused_pi an ad bn bd PiTimesPi nonzero h = h
+refused_pi an ad bn bd ByPi nonzero h = h
+
+-- a product of denominators isn't 0
+pub nonzero_product : (a b : ℤ) → pos 0 <ℤ a → pos 0 <ℤ b → a *ℤ b ≢ pos 0
+nonzero_product (pos zero) b p q = absurd (omega (arith, ints))
+nonzero_product (negsuc a) b p q = absurd (omega (arith, ints))
+nonzero_product (pos (suc a)) (pos zero) p q = absurd (omega (arith, ints))
+nonzero_product (pos (suc a)) (negsuc b) p q = absurd (omega (arith, ints))
+nonzero_product (pos (suc a)) (pos (suc b)) p q = λ e. omega (arith, ints)

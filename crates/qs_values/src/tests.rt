@@ -1,0 +1,228 @@
+ghost use Rattle.std.specs.Prelude.{◌≤◌};
+
+use crate::{Frac, Num, NumRefusal, is_name, to_angle};
+
+/// 10^18, which both parts of a fraction are below in size.
+const LIMIT: i64 = 1_000_000_000_000_000_000;
+
+fn fraction(num: i64, den: i64) -> Result<Frac, NumRefusal> {
+    Frac::of(num as i128, den as i128)
+}
+
+/// The constant `a/b + c/d * π` of the list `[a, b, c, d]`.
+fn number(parts: [i64; 4]) -> Result<Num, NumRefusal> {
+    Ok(Num {
+        plain: fraction(parts[0], parts[1])?,
+        pi: fraction(parts[2], parts[3])?,
+    })
+}
+
+fn parts(number: Num) -> [i128; 4] {
+    [
+        number.plain.num(),
+        number.plain.den(),
+        number.pi.num(),
+        number.pi.den(),
+    ]
+}
+
+#[test]
+fn fractions(rt: HostRuntime) {
+    let table = [
+        (LIMIT - 1, 1, Ok((999_999_999_999_999_999, 1))),
+        (LIMIT, 1, Err(NumRefusal::TooWide)),
+        (-LIMIT, 1, Err(NumRefusal::TooWide)),
+        (1, LIMIT - 1, Ok((1, 999_999_999_999_999_999))),
+        (1, LIMIT, Err(NumRefusal::TooWide)),
+        (1, -LIMIT, Err(NumRefusal::TooWide)),
+        (LIMIT, 10, Ok((100_000_000_000_000_000, 1))),
+        (-LIMIT, 2 * LIMIT, Ok((-1, 2))),
+        (3, -6, Ok((-1, 2))),
+        (-3, -6, Ok((1, 2))),
+        (0, 5, Ok((0, 1))),
+        (0, -5, Ok((0, 1))),
+        (5, 0, Err(NumRefusal::ByZero)),
+        (0, 0, Err(NumRefusal::ByZero)),
+    ];
+    for (num, den, want) in table {
+        let got = fraction(num, den).map(|quotient| (quotient.num(), quotient.den()));
+        assert_eq!(rt; got, want, "{num} / {den}");
+    }
+}
+
+#[derive(Clone, Copy, Debug)]
+enum Operation {
+    Add,
+    Sub,
+    Mul,
+    Div,
+}
+
+fn computed(
+    left: [i64; 4],
+    operation: Operation,
+    right: [i64; 4],
+) -> Result<[i128; 4], NumRefusal> {
+    let left = number(left)?;
+    let right = number(right)?;
+    let result = match operation {
+        Operation::Add => left.add(&right),
+        Operation::Sub => left.sub(&right),
+        Operation::Mul => left.mul(&right),
+        Operation::Div => left.div(&right),
+    };
+    result.map(parts)
+}
+
+#[test]
+fn numbers(rt: HostRuntime) {
+    let table = [
+        ([1, 3, 0, 1], Operation::Add, [1, 6, 0, 1], Ok([1, 2, 0, 1])),
+        (
+            [1, 3, 1, 2],
+            Operation::Sub,
+            [1, 3, 3, 4],
+            Ok([0, 1, -1, 4]),
+        ),
+        (
+            [LIMIT - 1, 1, 0, 1],
+            Operation::Add,
+            [1, 1, 0, 1],
+            Err(NumRefusal::TooWide),
+        ),
+        (
+            [0, 1, LIMIT - 1, 1],
+            Operation::Add,
+            [0, 1, 1, 1],
+            Err(NumRefusal::TooWide),
+        ),
+        (
+            [1 - LIMIT, 1, 0, 1],
+            Operation::Sub,
+            [1, 1, 0, 1],
+            Err(NumRefusal::TooWide),
+        ),
+        (
+            [0, 1, 1, 1],
+            Operation::Mul,
+            [0, 1, 1, 1],
+            Err(NumRefusal::PiTimesPi),
+        ),
+        ([0, 1, 0, 1], Operation::Mul, [1, 2, 1, 1], Ok([0, 1, 0, 1])),
+        (
+            [3, 1, 0, 1],
+            Operation::Mul,
+            [1, 6, -1, 9],
+            Ok([1, 2, -1, 3]),
+        ),
+        (
+            [1, 6, -1, 9],
+            Operation::Mul,
+            [3, 1, 0, 1],
+            Ok([1, 2, -1, 3]),
+        ),
+        (
+            [999_999_999, 1, 0, 1],
+            Operation::Mul,
+            [1_000_000_001, 1, 0, 1],
+            Ok([999_999_999_999_999_999, 1, 0, 1]),
+        ),
+        (
+            [1_000_000_000, 1, 0, 1],
+            Operation::Mul,
+            [1_000_000_000, 1, 0, 1],
+            Err(NumRefusal::TooWide),
+        ),
+        ([0, 1, 1, 1], Operation::Div, [0, 1, 1, 1], Ok([1, 1, 0, 1])),
+        ([0, 1, 2, 1], Operation::Div, [0, 1, 4, 1], Ok([1, 2, 0, 1])),
+        ([0, 1, 0, 1], Operation::Div, [0, 1, 1, 1], Ok([0, 1, 0, 1])),
+        (
+            [1, 1, 0, 1],
+            Operation::Div,
+            [0, 1, 1, 1],
+            Err(NumRefusal::ByPi),
+        ),
+        (
+            [0, 1, 1, 1],
+            Operation::Div,
+            [1, 1, 1, 1],
+            Err(NumRefusal::ByPi),
+        ),
+        (
+            [1, 1, 1, 1],
+            Operation::Div,
+            [0, 1, 0, 1],
+            Err(NumRefusal::ByZero),
+        ),
+        (
+            [1, 2, 1, 1],
+            Operation::Div,
+            [-1, 2, 0, 1],
+            Ok([-1, 1, -2, 1]),
+        ),
+    ];
+    for (left, operation, right, want) in table {
+        assert_eq!(rt;
+            computed(left, operation, right),
+            want,
+            "{left:?} {operation:?} {right:?}"
+        );
+    }
+}
+
+fn angle(parts: [i64; 4], width: u8) -> Result<u64, NumRefusal>
+    requires low { 1 ≤ width }
+    requires high { width ≤ 32 }
+{
+    Ok(to_angle(&number(parts)?, width))
+}
+
+#[test]
+fn angles(rt: HostRuntime) {
+    let table = [
+        ([3, 10, 0, 1], 32, 205_069_583),
+        ([0, 1, 1, 2], 32, 1_073_741_824),
+        ([0, 1, -1, 2], 32, 3_221_225_472),
+        ([1, 3, 0, 1], 32, 227_855_092),
+        ([-1, 3, 0, 1], 32, 4_067_112_204),
+        ([100_000_000_000_000_000, 1, 0, 1], 32, 2_444_266_046),
+        ([1 - LIMIT, 1, 1 - LIMIT, 1], 32, 4_158_192_240),
+        ([1, LIMIT - 1, 1, LIMIT - 1], 32, 0),
+        ([0, 1, 1, 3], 20, 174_763),
+        ([0, 1, -1, 3], 20, 873_813),
+        ([1, 2, 1, 4], 8, 52),
+        ([0, 1, 1, 1], 1, 1),
+        ([0, 1, 1, 4], 1, 0),
+        ([0, 1, 1, 2], 1, 1),
+        ([1, 1, 1, 1], 1, 1),
+        ([2, 1, 0, 1], 1, 1),
+    ];
+    for (parts, width, want) in table {
+        assert!(rt; 1 <= width && width <= 32);
+        assert_eq!(rt; angle(parts, width), Ok(want), "{parts:?} in {width} bits");
+    }
+}
+
+#[test]
+fn names(rt: HostRuntime) {
+    let table = [
+        ("x", true),
+        ("_1", true),
+        ("π", true),
+        ("µs", true),
+        ("x٣", false),
+        ("1a", false),
+        ("", false),
+        ("a b", false),
+        ("gate", false),
+        ("mutable", false),
+        ("Gate", true),
+        ("pragma", true),
+        ("defcal", false),
+        ("defcals", true),
+        ("#dim", false),
+    ];
+    for (text, want) in table {
+        assert_eq!(rt; is_name(text), want, "{text}");
+    }
+}
