@@ -1,0 +1,173 @@
+ghost use Rattle.std.specs.Prelude.{◌≡◌, ◌↔◌, [], IsTrue, Contains, MatchOption, None, Some};
+ghost use Rattle.outside.specs.Shelf.{AnswersTake, bytes_of};
+ghost use Rattle.outside.specs.Memory.{TakesInMemory, shelf_state};
+ghost use Rattle.outside.specs.Kept.{files_of, ReadsOf};
+
+use crate::shelf::{Shelf, TakeFault, Taken};
+use qs_values::{List, Name};
+use std::alloc::Global;
+use std::marker::Model;
+
+/// A file in memory: its name and its bytes.
+#[derive(Debug, Drop)]
+pub struct Kept {
+    pub name: Name,
+    pub bytes: List<u8>,
+}
+
+/// Files in memory, of which chosen calls fail.
+#[derive(Debug, Drop)]
+pub struct MemoryShelf {
+    files: List<Kept>,
+    fails: List<u32>,
+    calls: u64,
+    faults: u64,
+    failed: Option<Name>,
+}
+
+impl Model for MemoryShelf {
+    ghost use Rattle.outside.specs.Memory.{ShelfInMemory};
+
+    ghost Value = { ShelfInMemory };
+
+    ghost use Rattle.outside.specs.Kept.{files_of, name_or_empty};
+
+    ghost view = { λ s. record { files = files_of s.files; fails = s.fails; calls = s.calls; faults = s.faults; failed = name_or_empty s.failed } };
+}
+
+impl MemoryShelf {
+    /// A shelf whose calls of `take` are numbered from 0, and of which those in `fails` fail. Of
+    /// several files with one name the first counts.
+    pub fn new(files: List<Kept>, fails: List<u32>) -> MemoryShelf
+        ensures { result ≡ record { files = files_of files; fails = fails; calls = 0; faults = 0; failed = [] } }
+    {
+        MemoryShelf {
+            files,
+            fails,
+            calls: 0,
+            faults: 0,
+            failed: None,
+        }
+    }
+}
+
+impl Shelf for MemoryShelf {
+    ghost use Rattle.outside.specs.Memory.{shelf_state};
+
+    ghost state = { shelf_state };
+
+    fn take(&mut self, alloc: Global, name: &str, limit: u32) -> Result<Taken, TakeFault>
+        ensures meaning { AnswersTake (shelf_state self.old) (shelf_state self.new) name.now limit result }
+        ensures exact { TakesInMemory self.old self.new name.now limit result }
+    {
+        let Ok(copy) = Name::copy_of(alloc, name) else {
+            return Err(TakeFault::Memory);
+        };
+        let answer = if is_listed(self.fails.as_slice(), self.calls) {
+            Err(TakeFault::Failed)
+        } else {
+            read(alloc, self.files.as_slice(), name, limit)
+        };
+        match answer {
+            Ok(taken) => {
+                self.calls = self.calls.saturating_add(1);
+                Ok(taken)
+            }
+            Err(TakeFault::Failed) => {
+                self.calls = self.calls.saturating_add(1);
+                self.faults = self.faults.saturating_add(1);
+                self.failed = Some(copy);
+                Err(TakeFault::Failed)
+            }
+            Err(TakeFault::Memory) => Err(TakeFault::Memory),
+        }
+    }
+}
+
+fn is_listed(fails: &[u32], call: u64) -> bool
+    ensures { IsTrue result ↔ Contains fails.now call }
+{
+    fails.iter().any(|fail| u64::from(*fail) == call)
+}
+
+fn read(alloc: Global, files: &[Kept], name: &str, limit: u32) -> Result<Taken, TakeFault>
+    ensures { ReadsOf (bytes_of (files_of files.now) name.now) limit result }
+{
+    let Some(file) = first_named(files, name) else {
+        return Err(TakeFault::Failed);
+    };
+    let bytes = file.bytes.as_slice();
+    if bytes.len() > limit as usize {
+        return Ok(Taken::Longer);
+    }
+    match Vec::from_slice(alloc, bytes) {
+        Ok(copy) => Ok(Taken::Whole(List::from_vec(copy))),
+        Err(_) => Err(TakeFault::Memory),
+    }
+}
+
+fn first_named<'a>(files: &'a [Kept], name: &str) -> Option<&'a Kept>
+    ensures { MatchOption result (bytes_of (files_of files.now) name.now ≡ None) (λ f. bytes_of (files_of files.now) name.now ≡ Some f.now.bytes) }
+{
+    for file in files {
+        if file.name.as_str() == name {
+            return Some(file);
+        }
+    }
+    None
+}
+
+#[cfg(test)]
+mod tests {
+    use super::*;
+    use std::alloc::AllocError;
+    use std::test::Fail;
+
+    fn keep(
+        files: &mut List<Kept>,
+        alloc: Global,
+        name: &str,
+        bytes: &[u8],
+    ) -> Result<(), AllocError> {
+        files.push(Kept {
+            name: Name::copy_of(alloc, name)?,
+            bytes: List::from_vec(Vec::from_slice(alloc, bytes)?),
+        })
+    }
+
+    #[test]
+    fn takes_the_first_file_of_a_name(rt: HostRuntime) -> Result<(), Fail> {
+        let alloc = rt.alloc();
+        let mut files = List::new(alloc);
+        keep(&mut files, alloc, "gate", b"first")?;
+        keep(&mut files, alloc, "gate", b"second")?;
+        keep(&mut files, alloc, "pulse", b"")?;
+        let mut fails = List::new(alloc);
+        fails.push(1)?;
+        let mut shelf = MemoryShelf::new(files, fails);
+        let cases = [
+            ("gate", 5, "first"),
+            ("gate", 5, "fails"),
+            ("gate", 4, "longer"),
+            ("gates", 5, "fails"),
+            ("pulse", 0, ""),
+        ];
+        for (name, limit, wanted) in cases {
+            let answer = shelf.take(alloc, name, limit);
+            match &answer {
+                Ok(Taken::Whole(bytes)) => {
+                    assert_eq!(rt; bytes.as_slice(), wanted.as_bytes(), "{name}");
+                }
+                Ok(Taken::Longer) => assert_eq!(rt; wanted, "longer", "{name}"),
+                Err(fault) => {
+                    assert_eq!(rt; *fault, TakeFault::Failed);
+                    assert_eq!(rt; wanted, "fails", "{name}");
+                }
+            }
+        }
+        assert_eq!(rt; shelf.calls, 5);
+        assert_eq!(rt; shelf.faults, 2);
+        assert_eq!(rt; shelf.failed.as_ref().map(Name::as_str), Some("gates"));
+        Ok(())
+    }
+}

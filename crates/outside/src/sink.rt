@@ -1,0 +1,14 @@
+ghost use Rattle.outside.specs.Sink.{AnswersPut, SinkState};
+
+/// A sink took nothing of a piece.
+#[derive(Clone, Copy, Debug, PartialEq, Eq)]
+pub struct PutFailed;
+
+/// What bytes are put into. It counts its faults.
+pub trait Sink {
+    ghost state: { Self → SinkState };
+
+    /// Takes a front of the piece, and answers its length in bytes.
+    fn put(&mut self, piece: &[u8]) -> Result<usize, PutFailed>
+        ensures { AnswersPut (state self.old) (state self.new) piece.now result };
+}
