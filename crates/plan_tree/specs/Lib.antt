@@ -1,0 +1,6 @@
+pub mod Store
+pub mod Deeds
+pub mod Run
+pub mod Parts
+pub mod Acts
+pub mod Sound

@@ -1,0 +1,50 @@
+-- What each controller has of a plan: need and keep, and the parts. This project's own.
+-- A controller keeps the events of its ports, and each statement that holds one. The hub, controller 0, reads every variable.
+use Rattle.std.specs.Prelude.{ℕ, ◌+◌, List, [], ◌∷◌, length, map, filter, replicate, slice_index, Bool, nat_eq, zero, suc}
+use Rattle.plan_tree.specs.declared.plan.Plan.{Plan}
+use Rattle.plan_tree.specs.declared.plan.Event.{Event}
+use Rattle.plan_tree.specs.declared.plan.PlanStmt.{PlanStmt}
+use Rattle.plan_tree.specs.declared.plan.PlanStmt.TheVariants.{Block as PlanBlock}
+use Rattle.plan_tree.specs.declared.part.Item.{Item}
+use Rattle.plan_tree.specs.declared.part.Item.TheVariants.{Own}
+use Rattle.plan_tree.specs.declared.part.PartStmt.{PartStmt}
+use Rattle.plan_tree.specs.declared.part.PartStmt.TheVariants.{Block, Wait}
+use Rattle.plan_tree.specs.declared.part.Part.{Part}
+
+-- the controller of a port
+abbrev pub owner_of : Plan → ℕ → ℕ
+owner_of plan port = slice_index plan.owner port
+
+-- whether an event is of this controller's ports
+abbrev pub is_own : Plan → ℕ → Event → Bool
+is_own plan k e = nat_eq (owner_of plan e.port) k
+
+-- what a controller does in a block
+abbrev pub items_of : Plan → ℕ → List Event → List Item
+items_of plan k events = map Own (filter (is_own plan k) events)
+
+-- a block with what is kept of it, or a wait of its length where nothing is
+abbrev pub block_or_wait : ℕ → List Item → PartStmt
+block_or_wait ticks [] = Wait ticks
+block_or_wait ticks (item ∷ items) = Block ticks (item ∷ items)
+
+-- what a controller has of a statement
+abbrev pub part_stmt : Plan → ℕ → PlanStmt → PartStmt
+part_stmt plan k (PlanBlock b) = block_or_wait b.length (items_of plan k b.events)
+
+-- which variables a controller reads
+abbrev pub reads_of : Plan → ℕ → List Bool
+reads_of plan k = replicate (length plan.vars) (nat_eq k 0)
+
+-- the part of controller k
+abbrev pub part_of : Plan → ℕ → Part
+part_of plan k = record { controller = k; reads = reads_of plan k; body = map (part_stmt plan k) plan.body }
+
+-- n numbers from k on
+abbrev pub numbers : ℕ → ℕ → List ℕ
+numbers k zero = []
+numbers k (suc n) = k ∷ numbers (k + 1) n
+
+-- the parts, in order of controller
+abbrev pub parts_of : Plan → List Part
+parts_of plan = map (part_of plan) (numbers 0 plan.controllers)

@@ -1,0 +1,102 @@
+-- Sound plans, and tapes that fit them. This project's own.
+use Rattle.std.specs.Prelude.{◌≡◌, ◌⊎◌, ℕ, ◌+◌, ◌<◌, ◌≤◌, ◌^◌, List, [], ◌∷◌, length, map, sum, filter, All, slice_get, IsSomeAnd, Bool, ◌&&◌, nat_eq, Some}
+use Rattle.std.specs.List.{IsDistinct}
+use Rattle.std.specs.List.Sorted.{IsSortedByKey}
+use Rattle.std.specs.declared.cmp.Ordering.{Ordering}
+use Rattle.std.specs.Ordering.{nat_cmp, ordering_then}
+use Rattle.qs_values.specs.declared.kind.Kind.{Kind}
+use Rattle.qs_values.specs.declared.kind.Kind.TheVariants.{Bit, Bool as Truth, Bits, Int, Uint, Angle}
+use Rattle.qs_values.specs.declared.kind.Ty.{Ty}
+use Rattle.qs_values.specs.declared.kind.Input.{Input}
+use Rattle.qs_values.specs.declared.tape.Tape.{Tape}
+use Rattle.plan_tree.specs.declared.plan.Plan.{Plan}
+use Rattle.plan_tree.specs.declared.plan.Block.{Block as Block-}
+use Rattle.plan_tree.specs.declared.plan.Event.{Event}
+use Rattle.plan_tree.specs.declared.plan.Deed.{Deed}
+use Rattle.plan_tree.specs.declared.plan.Deed.TheVariants.{Pulse}
+use Rattle.plan_tree.specs.declared.plan.PlanStmt.{PlanStmt}
+use Rattle.plan_tree.specs.declared.plan.PlanStmt.TheVariants.{Block}
+use Rattle.plan_tree.specs.Store.{size_of}
+use Rattle.plan_tree.specs.Deeds.{plays}
+
+-- how much a statement weighs: a block 1 and its events
+abbrev pub weight_in : PlanStmt → ℕ
+weight_in (Block b) = 1 + length b.events
+
+abbrev pub weight_of : List PlanStmt → ℕ
+weight_of body = sum (map weight_in body)
+
+-- the order of an offset and a port
+abbrev pub start_cmp : ℕ × ℕ → ℕ × ℕ → Ordering
+start_cmp x y = ordering_then (nat_cmp x.0 y.0) (nat_cmp x.1 y.1)
+
+abbrev pub start_key : Event → ℕ × ℕ
+start_key e = (e.offset, e.port)
+
+-- whether two events stand on one port at one offset
+abbrev pub same_start : Event → Event → Bool
+same_start d e = nat_eq d.port e.port && nat_eq d.offset e.offset
+
+-- A deed of a block of so many ticks, at this offset and port: its frame is one of its port, and a pulse begins before the block's end.
+abbrev pub IsSoundDeed : Plan → ℕ → ℕ → ℕ → Deed → Type 0
+IsSoundDeed plan ticks offset port (Pulse f w) = IsSomeAnd (slice_get plan.frames f) (λ s. s.port ≡ port) × (offset < ticks)
+
+pub record IsSoundEvent (plan : Plan) (ticks : ℕ) (e : Event) : Type 0 where
+  pub port : e.port < length plan.owner
+  pub act : IsSoundDeed plan ticks e.offset e.port e.act
+
+-- Events stand by offset and at one offset by port, and no two that play on one port begin together.
+pub record IsSoundBlock (plan : Plan) (b : Block-) : Type 0 where
+  pub length : b.length ≤ 2 ^ 40
+  pub events : All (IsSoundEvent plan b.length) b.events
+  pub order : IsSortedByKey start_key start_cmp b.events
+  pub apart : IsDistinct same_start (filter (λ e. plays e.act) b.events)
+
+abbrev pub IsSoundStmt : Plan → PlanStmt → Type 0
+IsSoundStmt plan (Block b) = IsSoundBlock plan b
+
+-- The variables from this one on are those of a value of this type: a register's are bits.
+abbrev pub HasVars : List Ty → ℕ → Kind → ℕ → Type 0
+HasVars vars first Bit width = IsSomeAnd (slice_get vars first) (λ ty. ty.kind ≡ Bit)
+HasVars vars first Truth width = IsSomeAnd (slice_get vars first) (λ ty. ty.kind ≡ Truth)
+HasVars vars first Bits width = (i : ℕ) → i < width → IsSomeAnd (slice_get vars (first + i)) (λ ty. ty.kind ≡ Bit)
+HasVars vars first Int width = IsSomeAnd (slice_get vars first) (λ ty. (ty.kind ≡ Int) × (ty.width ≡ width))
+HasVars vars first Uint width = IsSomeAnd (slice_get vars first) (λ ty. (ty.kind ≡ Uint) × (ty.width ≡ width))
+HasVars vars first Angle width = IsSomeAnd (slice_get vars first) (λ ty. (ty.kind ≡ Angle) × (ty.width ≡ width))
+
+-- the first variable behind an input's
+abbrev pub behind : Input → ℕ
+behind input = input.first + size_of input.ty.kind input.ty.width
+
+-- No two inputs share a variable.
+abbrev pub AreApart : List Input → Type 0
+AreApart inputs = (i j : ℕ) (a b : Input) → i < j → slice_get inputs i ≡ Some a → slice_get inputs j ≡ Some b
+    → (behind a ≤ b.first) ⊎ (behind b ≤ a.first)
+
+pub record IsSound (plan : Plan) : Type 0 where
+  pub some : 1 ≤ plan.controllers
+  pub few : plan.controllers ≤ 16
+  pub ports : length plan.owner ≤ 96
+  pub owners : All (λ k. (0 < k) × (k < plan.controllers)) plan.owner
+  pub frames : length plan.frames ≤ 256
+  pub frame_ports : All (λ f. f.port < length plan.owner) plan.frames
+  pub inputs : All (λ i. HasVars plan.vars i.first i.ty.kind i.ty.width) plan.inputs
+  pub apart : AreApart plan.inputs
+  pub outs : All (λ o. HasVars plan.vars o.first o.ty.kind o.ty.width) plan.outs
+  pub body : All (IsSoundStmt plan) plan.body
+  pub gap : plan.gap ≤ 1048576
+  pub turns : 1 ≤ plan.budget
+  pub budget : plan.budget ≤ 100000
+  pub weight : weight_of plan.body ≤ 1048576
+
+-- One value for each input, in its type.
+abbrev pub FitInputs : List Input → List ℕ → Type 0
+FitInputs [] [] = Unit {0}
+FitInputs [] (v ∷ vs) = ⊥
+FitInputs (i ∷ is) [] = ⊥
+FitInputs (i ∷ is) (v ∷ vs) = (v < 2 ^ i.ty.width) × FitInputs is vs
+
+-- a tape that fits a plan
+pub record Fits (plan : Plan) (tape : Tape) : Type 0 where
+  pub inputs : FitInputs plan.inputs tape.inputs
+  pub bits : All (λ list. All (λ bit. bit < 2) list) tape.bits
