@@ -1,0 +1,73 @@
+-- The starts of a block are admissible, and nowhere later than any admissible ones.
+use Rattle.std.proofs.Common.{◌≡◌, ℕ, zero, suc, ◌+◌, ◌<◌, ◌≤◌, max, inl, inr, List, [], ◌∷◌, ◌++◌, length, true, Some, slice_get, slice_index, refl, ap, sym, subst, arith}
+use Rattle.std.proofs.lemmas.Bool.{cond-true, cond-false, cases_Bool}
+use Rattle.box_schedule.specs.declared.block.TOp.{TOp}
+use Rattle.box_schedule.specs.Placement.{Begun, shares, end_for, start_after, starts_behind, starts_of, ticks_of, IsEarliest}
+use Rattle.box_schedule.proofs.PlacementLemmas.{begun, length-starts_behind}
+
+-- No operation begins before an earlier one on its qubits has ended.
+abbrev AreApart : List TOp → List ℕ → Type 0
+AreApart ops starts = (i j : ℕ) (a b : TOp) → i < j → slice_get ops i ≡ Some a → slice_get ops j ≡ Some b → shares a b ≡ true
+    → slice_index starts i + ticks_of a ≤ slice_index starts j
+
+start_after-push : (earlier : List Begun) (last : Begun) (op : TOp) → start_after (earlier ++ last ∷ []) op ≡ max (start_after earlier op) (end_for op last)
+start_after-push [] last op = omega arith
+start_after-push (first ∷ rest) last op = omega (arith, start_after-push rest last op)
+
+-- What begins behind earlier operations begins where they let it begin, or later.
+start_after-starts_behind : (earlier : List Begun) (ops : List TOp) (j : ℕ) (op : TOp) → slice_get ops j ≡ Some op
+    → start_after earlier op ≤ slice_index (starts_behind earlier ops) j
+start_after-starts_behind earlier [] j op here = absurd (cc)
+start_after-starts_behind earlier (first ∷ ops) zero op here =
+    let same : first ≡ op = cc in omega (arith, ap (start_after earlier) same)
+start_after-starts_behind earlier (first ∷ ops) (suc j) op here =
+    omega (arith, start_after-starts_behind (earlier ++ begun earlier first ∷ []) ops j op here, start_after-push earlier (begun earlier first) op)
+
+starts_behind-apart : (earlier : List Begun) (ops : List TOp) → AreApart ops (starts_behind earlier ops)
+starts_behind-apart earlier [] i j a b before is_a is_b shared = absurd (cc)
+starts_behind-apart earlier (first ∷ ops) zero zero a b before is_a is_b shared = absurd (omega arith)
+starts_behind-apart earlier (first ∷ ops) (suc i) zero a b before is_a is_b shared = absurd (omega arith)
+starts_behind-apart earlier (first ∷ ops) zero (suc j) a b before is_a is_b shared =
+    let same : first ≡ a = cc in
+    let meets : shares first b ≡ true = cc in
+    let ends : end_for b (begun earlier first) ≡ start_after earlier first + ticks_of first = cond-true _ _ _ meets in
+    omega (arith, ap ticks_of same, start_after-push earlier (begun earlier first) b, start_after-starts_behind (earlier ++ begun earlier first ∷ []) ops j b is_b)
+starts_behind-apart earlier (first ∷ ops) (suc i) (suc j) a b before is_a is_b shared =
+    starts_behind-apart (earlier ++ begun earlier first ∷ []) ops i j a b (omega arith) is_a is_b shared
+
+-- An operation begins no later than another one behind it that ends late enough lets it begin.
+end_for-le : (op : TOp) (first : TOp) (start n : ℕ) → (shares first op ≡ true → start + ticks_of first ≤ n) → end_for op (record { op = first; start = start }) ≤ n
+end_for-le op first start n late = elim (cases_Bool (shares first op)) [
+  | inl shared ↦
+      let ends : end_for op (record { op = first; start = start }) ≡ start + ticks_of first = cond-true _ _ _ shared in
+      omega (arith, late shared)
+  | inr apart ↦
+      let none : end_for op (record { op = first; start = start }) ≡ 0 = cond-false _ _ _ apart in
+      omega arith
+]
+
+starts_behind-least : (earlier : List Begun) (ops : List TOp) (others : List ℕ) → length others ≡ length ops → AreApart ops others
+    → ((j : ℕ) (op : TOp) → slice_get ops j ≡ Some op → start_after earlier op ≤ slice_index others j)
+    → (i : ℕ) → slice_index (starts_behind earlier ops) i ≤ slice_index others i
+starts_behind-least earlier [] others count apart late i = omega arith
+starts_behind-least earlier (first ∷ ops) [] count apart late i = absurd (omega arith)
+starts_behind-least earlier (first ∷ ops) (other ∷ others) count apart late zero = late 0 first refl
+starts_behind-least earlier (first ∷ ops) (other ∷ others) count apart late (suc i) =
+    starts_behind-least (earlier ++ begun earlier first ∷ []) ops others (omega arith)
+    (λ i j a b before is_a is_b shared. apart (suc i) (suc j) a b (omega arith) is_a is_b shared)
+    (λ j op here.
+    let own : end_for op (begun earlier first) ≤ slice_index others j =
+    end_for-le op first (start_after earlier first) (slice_index others j) (λ shared.
+    omega (arith, late 0 first refl, apart 0 (suc j) first op (omega arith) refl here shared)) in
+    omega (arith, own, late (suc j) op here, start_after-push earlier (begun earlier first) op))
+    i
+
+-- Both halves of what a placement promises.
+pub starts_of-earliest : (ops : List TOp) → IsEarliest ops (starts_of ops)
+starts_of-earliest ops = (
+  record { count = length-starts_behind [] ops; apart = starts_behind-apart [] ops },
+  λ others admissible. starts_behind-least [] ops others admissible.count admissible.apart (λ j op here. omega arith),
+)
+
+pub IsEarliest-at : (ops : List TOp) (starts : List ℕ) → starts ≡ starts_of ops → IsEarliest ops starts
+IsEarliest-at ops starts same = subst (IsEarliest ops) (sym same) (starts_of-earliest ops)

@@ -1,0 +1,4 @@
+pub mod PlacementLemmas
+pub mod ClockLemmas
+pub mod EarliestLemmas
+pub mod StepLemmas

@@ -1,0 +1,88 @@
+-- Least placement: each operation of a block begins as soon as the earlier ones on its qubits have ended. This project's own.
+-- It compares pairs of operations. So far lengths are constant and there are no boxes.
+use Rattle.std.specs.Prelude.{◌≡◌, ℕ, ◌+◌, ◌<◌, ◌≤◌, ◌^◌, ℤ, pos, negsuc, List, [], ◌∷◌, ◌++◌, length, max, Bool, true, nat_eq, if◌then◌else◌, slice_get, slice_index, Result, Ok, Err, Some, None, IsSomeAnd}
+use Rattle.std.specs.List.{list_any}
+use Rattle.box_schedule.specs.declared.block.TOp.{TOp, out-TOp}
+use Rattle.box_schedule.specs.declared.block.TOp.TheOpen.{TOp-F}
+use Rattle.box_schedule.specs.declared.block.Placed.{Placed}
+use Rattle.box_schedule.specs.declared.refusal.BoxRefusal.{BoxRefusal}
+use Rattle.box_schedule.specs.declared.refusal.BoxRefusal.TheVariants.{TickOut, Memory}
+
+-- a constant number of ticks
+abbrev pub natural : ℤ → ℕ
+natural (pos n) = n
+natural (negsuc n) = 0
+
+-- the fields of an operation, which holds operations itself
+abbrev pub opened : TOp → TOp-F TOp
+opened op = out-TOp op
+
+-- how many ticks an operation lasts
+abbrev pub ticks_of : TOp → ℕ
+ticks_of op = natural (opened op).length.ticks
+
+-- whether two operations share a qubit
+abbrev pub shares : TOp → TOp → Bool
+shares a b = list_any (λ q. list_any (nat_eq q) (opened b).qubits) (opened a).qubits
+
+-- an operation, and the tick at which it begins
+pub record Begun : Type 0 where
+  pub op : TOp
+  pub start : ℕ
+
+-- where an earlier operation lets this one begin: at its end, where they share a qubit
+abbrev pub end_for : TOp → Begun → ℕ
+end_for op earlier = if shares earlier.op op then earlier.start + ticks_of earlier.op else 0
+
+-- the greatest of 0 and these ends
+abbrev pub start_after : List Begun → TOp → ℕ
+start_after [] op = 0
+start_after (earlier ∷ rest) op = max (end_for op earlier) (start_after rest op)
+
+-- the starts of operations behind earlier ones
+abbrev pub starts_behind : List Begun → List TOp → List ℕ
+starts_behind earlier [] = []
+starts_behind earlier (op ∷ ops) =
+    start_after earlier op ∷ starts_behind (earlier ++ record { op = op; start = start_after earlier op } ∷ []) ops
+
+-- the starts of a block's operations
+abbrev pub starts_of : List TOp → List ℕ
+starts_of ops = starts_behind [] ops
+
+-- the greatest end
+abbrev pub latest_end : List TOp → List ℕ → ℕ
+latest_end [] starts = 0
+latest_end (op ∷ ops) [] = 0
+latest_end (op ∷ ops) (start ∷ starts) = max (start + ticks_of op) (latest_end ops starts)
+
+-- how many ticks a block lasts
+abbrev pub length_of : List TOp → ℕ
+length_of ops = latest_end ops (starts_of ops)
+
+-- how many ticks a block lasts at most
+abbrev pub longest : ℕ
+longest = 2 ^ 40
+
+-- No operation begins before an earlier one on its qubits has ended.
+pub record IsAdmissible (ops : List TOp) (starts : List ℕ) : Type 0 where
+  pub count : length starts ≡ length ops
+  pub apart : (i j : ℕ) (a b : TOp) → i < j → slice_get ops i ≡ Some a → slice_get ops j ≡ Some b → shares a b ≡ true
+      → slice_index starts i + ticks_of a ≤ slice_index starts j
+
+-- The placement of a block: the least starts, or that it is too long, at its first operation.
+abbrev pub Places : List TOp → Result Placed BoxRefusal → Type 0
+Places ops (Ok placed) = (placed.starts ≡ starts_of ops) × (placed.length ≡ length_of ops) × (length_of ops ≤ longest)
+Places ops (Err (TickOut span)) = (longest < length_of ops) × IsSomeAnd (slice_get ops 0) (λ op. (opened op).span ≡ span)
+Places ops (Err Memory) = Unit {0}
+
+-- At each place these starts are at most those.
+abbrev pub IsEarliest : List TOp → List ℕ → Type 0
+IsEarliest ops starts = IsAdmissible ops starts × ((others : List ℕ) → IsAdmissible ops others → (i : ℕ) → slice_index starts i ≤ slice_index others i)
+
+-- An operation of constant length outside boxes: its qubits are below 32, and it lasts from 0 to 2^32 ticks.
+pub record IsPlain (op : TOp) : Type 0 where
+  pub qubits : (i : ℕ) → i < length (opened op).qubits → slice_index (opened op).qubits i < 32
+  pub parts : (opened op).length.parts ≡ []
+  pub short : (n : ℕ) → (opened op).length.ticks ≡ pos n → n ≤ 2 ^ 32
+  pub inner : (opened op).inner ≡ None
+  pub fixed : (opened op).fixed ≡ None

@@ -1,0 +1,86 @@
+ghost use Rattle.std.specs.Prelude.{◌≡◌, ℕ, ◌+◌, ◌<◌, ◌≤◌, ◌^◌, All, length, slice_index, nat_eq, if◌then◌else◌, IfOk};
+ghost use Rattle.std.specs.List.{list_any};
+ghost use Rattle.box_schedule.specs.Clocks.{greatest};
+ghost use Rattle.box_schedule.specs.Placement.{IsEarliest, IsPlain, Places, length_of, starts_of, ticks_of};
+
+use crate::block::{Placed, TBlock, TOp};
+use crate::refusal::BoxRefusal;
+use qs_values::List;
+use std::alloc::{AllocError, Global};
+
+/// How many qubits have a clock.
+const QUBITS: usize = 32;
+
+/// How many ticks a block lasts at most.
+const LONGEST: u64 = 1 << 40;
+
+/// When the operations of a block begin: each as soon as the earlier ones on its qubits have ended, and no
+/// earlier start is possible at any of them. Lengths are constant so far, so `values`, the value in ticks of
+/// each stretch by its number, isn't read yet.
+///
+/// Refused with `TickOut`, at the first operation, where the block lasts longer than 2^40 ticks.
+pub fn schedule(alloc: Global, block: &TBlock, values: &List<u64>) -> Result<Placed, BoxRefusal>
+    requires plain { All IsPlain block.now.ops }
+    requires count { length block.now.ops ≤ 2 ^ 24 }
+    ensures places { Places block.now.ops result }
+    ensures earliest { IfOk result (λ placed. IsEarliest block.now.ops placed.starts) }
+{
+    let ops = block.ops.as_slice();
+    let placed = place(alloc, ops)?;
+    match ops.first() {
+        Some(first) if placed.length > LONGEST => Err(BoxRefusal::TickOut { span: first.span }),
+        _ => Ok(placed),
+    }
+}
+
+/// The starts of these operations and the greatest end, with one clock per qubit.
+fn place(alloc: Global, ops: &[TOp]) -> Result<Placed, AllocError>
+    requires plain { All IsPlain ops.now }
+    requires count { length ops.now ≤ 2 ^ 24 }
+    ensures { IfOk result (λ placed. (placed.starts ≡ starts_of ops.now) × (placed.length ≡ length_of ops.now)) }
+{
+    let mut clocks = [0; QUBITS];
+    let mut starts = Vec::with_capacity(alloc, ops.len())?;
+    let mut length = 0;
+    for op in ops {
+        let qubits = op.qubits.as_slice();
+        let start = begin(&clocks, qubits);
+        let end = start + ticks(op);
+        move_clocks(&mut clocks, qubits, end);
+        starts.push(start)?;
+        length = end.max(length);
+    }
+    Ok(Placed {
+        length,
+        starts: List::from_vec(starts),
+    })
+}
+
+/// How many ticks an operation lasts.
+fn ticks(op: &TOp) -> u64
+    ensures { result ≡ ticks_of op.now }
+{
+    op.length.ticks.max(0) as u64
+}
+
+/// The greatest clock of these qubits, 0 without a qubit.
+fn begin(clocks: &[u64; QUBITS], qubits: &[u8]) -> u64
+    requires { (i : ℕ) → i < length qubits.now → slice_index qubits.now i < QUBITS }
+    ensures { result ≡ greatest (slice_index clocks.now) qubits.now }
+{
+    let mut start = 0;
+    for qubit in qubits {
+        start = clocks[usize::from(*qubit)].max(start);
+    }
+    start
+}
+
+/// Moves the clocks of these qubits to the tick `end`.
+fn move_clocks(clocks: &mut [u64; QUBITS], qubits: &[u8], end: u64)
+    requires { (i : ℕ) → i < length qubits.now → slice_index qubits.now i < QUBITS }
+    ensures { (q : ℕ) → q < QUBITS → slice_index clocks.new q ≡ (if list_any (nat_eq q) qubits.now then end else slice_index clocks.old q) }
+{
+    for qubit in qubits {
+        clocks[usize::from(*qubit)] = end;
+    }
+}
