@@ -1,0 +1,11 @@
+pub mod Entries
+pub mod Plays
+pub mod Spots
+pub mod Standing
+pub mod Sizes
+pub mod Rooms
+pub mod LawLemmas
+pub mod Timeline
+pub mod Ordered
+pub mod StoreLemmas
+pub mod CtlLemmas

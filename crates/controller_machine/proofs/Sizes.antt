@@ -1,0 +1,142 @@
+-- How many items, ticks and acts a sound plan has.
+use Rattle.std.proofs.Common.{◌≡◌, ℕ, ◌+◌, ◌*◌, ◌≤◌, ◌^◌, List, [], ◌∷◌, ◌++◌, length, map, refl, ap, arith, sym, ◌∙◌, subst, suc}
+use Rattle.std.specs.Prelude.{All, Bool, true, false, ◌&&◌, cond, sum, count_by, filter, nat_eq}
+use Rattle.std.proofs.lemmas.List.{length-append, length-map}
+use Rattle.std.proofs.lemmas.List.Elements.{All-nil, All-head, All-tail, All-append, All-map, All-filter, All-weaker}
+use Rattle.std.proofs.lemmas.List.Sums.{sum_by-cons, sum_by-append, length-filter, count_by-le-length}
+use Rattle.qs_values.specs.declared.tape.Tape.{Tape}
+use Rattle.plan_tree.specs.declared.frame.FrameState.{FrameState}
+use Rattle.plan_tree.specs.declared.plan.Plan.{Plan}
+use Rattle.plan_tree.specs.declared.plan.Event.{Event}
+use Rattle.plan_tree.specs.declared.plan.Deed.{Deed}
+use Rattle.plan_tree.specs.declared.plan.Deed.TheVariants.{Pulse}
+use Rattle.plan_tree.specs.declared.plan.PlanStmt.{PlanStmt}
+use Rattle.plan_tree.specs.declared.plan.PlanStmt.TheVariants.{Block as PlanBlock}
+use Rattle.plan_tree.specs.declared.part.Item.{Item}
+use Rattle.plan_tree.specs.declared.part.Item.TheVariants.{Own}
+use Rattle.plan_tree.specs.declared.part.PartStmt.{PartStmt}
+use Rattle.plan_tree.specs.Deeds.{plays}
+use Rattle.plan_tree.specs.Run.{Place, Entry, Happening, Pulsed, start_frames, run_of}
+use Rattle.plan_tree.specs.Acts.{actor, acts_by, all_acts, planned_acts}
+use Rattle.plan_tree.specs.Parts.{is_own, items_of, block_or_wait, part_stmt}
+use Rattle.plan_tree.specs.Sound.{IsSoundDeed, IsSoundEvent, IsSoundStmt, weight_in, weight_of}
+use Rattle.controller_machine.specs.Ctl.{IsNear, items_left, most_in, plays_item, ticks_of}
+use Rattle.controller_machine.proofs.Entries.{entries_of, event_entries, stmt_entries, length_in, run-trace}
+use Rattle.controller_machine.proofs.Standing.{ticks-stmt}
+
+weight-cons : (x : PlanStmt) (xs : List PlanStmt) → weight_of (x ∷ xs) ≡ weight_in x + weight_of xs
+weight-cons x xs = sum_by-cons (λ n. n) (weight_in x) (map weight_in xs)
+
+-- a statement of a sound plan is at most 2^40 ticks long
+stmt-short : (plan : Plan) (x : PlanStmt) → IsSoundStmt plan x → length_in x ≤ 2 ^ 40
+stmt-short plan (PlanBlock b) sound = sound.length
+
+stmt-weighs : (x : PlanStmt) → 1 ≤ weight_in x
+stmt-weighs (PlanBlock b) = omega arith
+
+-- A part takes at most 2^40 ticks for each 1 that its plan weighs.
+pub ticks-few : (plan : Plan) (k : ℕ) (body : List PlanStmt) → All (IsSoundStmt plan) body → ticks_of (map (part_stmt plan k) body) ≤ weight_of body * 2 ^ 40
+ticks-few plan k [] sound = omega arith
+ticks-few plan k (x ∷ xs) sound =
+    let rest = ticks-few plan k xs (All-tail (IsSoundStmt plan) x xs sound) in
+    omega (arith, rest, ticks-stmt plan k x (map (part_stmt plan k) xs), weight-cons x xs, stmt-weighs x, stmt-short plan x (All-head (IsSoundStmt plan) x xs sound))
+
+items-block : (ticks : ℕ) (items : List Item) (rest : List PartStmt) → items_left (block_or_wait ticks items ∷ rest) 0 ≡ items ++ items_left rest 0
+items-block ticks [] rest = refl
+items-block ticks (item ∷ items) rest = refl
+
+deed-near : (plan : Plan) (ticks : ℕ) (e : Event) (d : Deed) → ticks ≤ 2 ^ 40 → IsSoundDeed plan ticks e.offset e.port d → IsNear (Own e)
+deed-near plan ticks e (Pulse f w) short sound = omega (arith, sound.1)
+
+event-near : (plan : Plan) (ticks : ℕ) (e : Event) → ticks ≤ 2 ^ 40 → IsSoundEvent plan ticks e → IsNear (Own e)
+event-near plan ticks e short sound = deed-near plan ticks e e.act short sound.act
+
+-- Each item of a part is near its block's beginning.
+pub items-near : (plan : Plan) (k : ℕ) (body : List PlanStmt) → All (IsSoundStmt plan) body → All IsNear (items_left (map (part_stmt plan k) body) 0)
+items-near plan k [] sound = All-nil IsNear
+items-near plan k (PlanBlock b ∷ xs) sound =
+    let block = All-head (IsSoundStmt plan) (PlanBlock b) xs sound in
+    let near = All-weaker (IsSoundEvent plan b.length) (λ e. IsNear (Own e)) (λ e h. event-near plan b.length e block.length h) b.events block.events in
+    let own = All-map IsNear Own (filter (is_own plan k) b.events) (All-filter (is_own plan k) (λ e. IsNear (Own e)) b.events near) in
+    subst (All IsNear) (sym (items-block b.length (items_of plan k b.events) (map (part_stmt plan k) xs)))
+    (All-append IsNear (items_of plan k b.events) _ own (items-near plan k xs (All-tail (IsSoundStmt plan) (PlanBlock b) xs sound)))
+
+-- A part's items are at most what its plan weighs.
+pub items-weigh : (plan : Plan) (k : ℕ) (body : List PlanStmt) → length (items_left (map (part_stmt plan k) body) 0) ≤ weight_of body
+items-weigh plan k [] = omega arith
+items-weigh plan k (PlanBlock b ∷ xs) =
+    let left = ap length (items-block b.length (items_of plan k b.events) (map (part_stmt plan k) xs)) in
+    let both = length-append (items_of plan k b.events) (items_left (map (part_stmt plan k) xs) 0) in
+    let own = length-map (filter (is_own plan k) b.events) Own ∙ length-filter (is_own plan k) b.events in
+    omega (arith, left, both, own, count_by-le-length (is_own plan k) b.events, items-weigh plan k xs, weight-cons (PlanBlock b) xs)
+
+-- an event before others whose items are counted
+one-plays : (own played : Bool) (e : Event) (events : List Event) → plays e.act ≡ played →
+    count_by plays_item (map Own (cond own (e ∷ events) events)) ≡ cond (own && played) 1 0 + count_by plays_item (map Own events)
+one-plays true played e events same = sum_by-cons _ (Own e) (map Own events) ∙ ap (λ b. cond b 1 0 + count_by plays_item (map Own events)) same
+one-plays false played e events same = omega arith
+
+-- the items of a block that play
+own-play : (plan : Plan) (k : ℕ) (events : List Event) → count_by plays_item (items_of plan k events) ≡ count_by (λ e. is_own plan k e && plays e.act) events
+own-play plan k [] = refl
+own-play plan k (e ∷ es) =
+    omega (
+      arith,
+      one-plays (is_own plan k e) (plays e.act) e (filter (is_own plan k) es) refl,
+      own-play plan k es,
+      sum_by-cons (λ d. cond (is_own plan k d && plays d.act) 1 0) e es,
+    )
+
+-- A part's items that play are as many as its controller's log may have entries.
+pub items-most : (plan : Plan) (k : ℕ) (body : List PlanStmt) → count_by plays_item (items_left (map (part_stmt plan k) body) 0) ≡ sum (map (most_in plan k) body)
+items-most plan k [] = refl
+items-most plan k (PlanBlock b ∷ xs) =
+    omega (
+      arith,
+      ap (count_by plays_item) (items-block b.length (items_of plan k b.events) (map (part_stmt plan k) xs)),
+      sum_by-append (λ i. cond (plays_item i) 1 0) (items_of plan k b.events) (items_left (map (part_stmt plan k) xs) 0),
+      own-play plan k b.events,
+      items-most plan k xs,
+      sum_by-cons (λ n. n) (most_in plan k (PlanBlock b)) (map (most_in plan k) xs),
+    )
+
+deed-plays : (d : Deed) → plays d ≡ true
+deed-plays (Pulse f w) = refl
+
+-- Each item plays.
+pub item-plays : (item : Item) → plays_item item ≡ true
+item-plays (Own e) = deed-plays e.act
+
+-- An item before others is one more to play.
+pub count-plays : (item : Item) (items : List Item) → count_by plays_item (item ∷ items) ≡ 1 + count_by plays_item items
+count-plays item items = sum_by-cons _ item items ∙ ap (λ b. cond b 1 0 + count_by plays_item items) (item-plays item)
+
+-- As many items play as there are.
+pub all-play : (items : List Item) → count_by plays_item items ≡ length items
+all-play [] = refl
+all-play (item ∷ items) = omega (arith, count-plays item items, all-play items)
+
+length-events : (frames : List FrameState) (here : Place) (n tick : ℕ) (events : List Event) → length (event_entries frames here n tick events) ≡ length events
+length-events frames here n tick [] = refl
+length-events frames here n tick (e ∷ es) = ap (λ m. suc m) (length-events frames here (n + 1) tick es)
+
+stmt-entries-few : (frames : List FrameState) (here : Place) (tick : ℕ) (x : PlanStmt) → length (stmt_entries frames here tick x) ≤ weight_in x
+stmt-entries-few frames here tick (PlanBlock b) = omega (arith, length-events frames here 0 tick b.events)
+
+entries-few : (frames : List FrameState) (here : Place) (n tick : ℕ) (body : List PlanStmt) → length (entries_of frames here n tick body) ≤ weight_of body
+entries-few frames here n tick [] = omega arith
+entries-few frames here n tick (x ∷ xs) = rw length-append (omega (arith, weight-cons x xs, stmt-entries-few frames (n ∷ here) tick x, entries-few frames here (n + 1) (tick + length_in x) xs))
+
+acts-one : (plan : Plan) (e : Entry) (what : Happening) → length (acts_by plan e what) ≡ 1
+acts-one plan e (Pulsed port wave phase hz) = refl
+
+length-acts : (plan : Plan) (trace : List Entry) → length (all_acts plan trace) ≡ length trace
+length-acts plan [] = refl
+length-acts plan (e ∷ es) = rw length-append (omega (arith, acts-one plan e e.what, length-acts plan es))
+
+-- A controller's acts are at most what a plan weighs.
+pub acts-weigh : (plan : Plan) (tape : Tape) (k : ℕ) → length (planned_acts plan tape k) ≤ weight_of plan.body
+acts-weigh plan tape k =
+    let own = length-filter (λ a. nat_eq (actor a) k) (all_acts plan (run_of plan tape).trace) in
+    let some = count_by-le-length (λ a. nat_eq (actor a) k) (all_acts plan (run_of plan tape).trace) in
+    omega (arith, own, some, length-acts plan (run_of plan tape).trace, ap length (run-trace plan tape), entries-few (start_frames plan.frames) [] 0 0 plan.body)

@@ -1,0 +1,5 @@
+use Rattle.controller_machine.proofs.Ordered.{logs-ordered}
+use Rattle.controller_machine.proofs.laws.logs_stand_in_order.Goals as goal
+
+pub returns : goal.returns
+returns c = logs-ordered
