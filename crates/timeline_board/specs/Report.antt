@@ -1,0 +1,66 @@
+-- The report of a run. This project's own.
+use Rattle.std.specs.Prelude.{ℕ, ◌+◌, ◌-◌, ◌^◌, List, [], ◌++◌, codes, decimal, map, slice_get, slice_index, unwrap_or, if◌then◌else◌, nat_lt, Option, Some, None, zero, suc}
+use Rattle.std.specs.List.{flat_map}
+use Rattle.qs_values.specs.declared.kind.Kind.{Kind}
+use Rattle.qs_values.specs.declared.kind.Kind.TheVariants.{Bit, Bool, Bits, Int, Uint, Angle}
+use Rattle.qs_values.specs.declared.kind.Out.{Out}
+use Rattle.plan_tree.specs.declared.plan.Plan.{Plan}
+use Rattle.qs_machine.specs.declared.machine.Machine.{Machine}
+use Rattle.controller_machine.specs.declared.ctl.Played.{Played}
+use Rattle.controller_machine.specs.declared.ctl.Ending.{Ending}
+use Rattle.controller_machine.specs.declared.ctl.Ending.TheVariants.{Going, Done}
+use Rattle.controller_machine.specs.Ctl.{CtlState}
+
+-- the name of this number
+abbrev pub name_at : List (List ℕ) → ℕ → List ℕ
+name_at names n = unwrap_or (slice_get names n) []
+
+abbrev pub entry_word : Option ℕ → List ℕ
+entry_word None = codes "pulse "
+entry_word (Some bit) = codes "capture "
+
+-- a capture's bit stands last
+abbrev pub bit_text : Option ℕ → List ℕ
+bit_text None = []
+bit_text (Some bit) = codes " " ++ decimal bit
+
+-- an entry of the timeline
+abbrev pub entry_line : Machine → Played → List ℕ
+entry_line machine p =
+    entry_word p.bit ++ decimal p.tick
+    ++ codes " " ++ name_at (map (λ port. port.name) machine.ports) p.port
+    ++ codes " " ++ name_at (map (λ wave. wave.name) machine.waveforms) p.wave
+    ++ codes " " ++ decimal p.phase ++ codes " " ++ decimal p.hz ++ bit_text p.bit ++ codes "\n"
+
+-- so many variables as digits, the highest first
+abbrev pub digits_from : List ℕ → ℕ → ℕ → List ℕ
+digits_from store first zero = []
+digits_from store first (suc n) = decimal (slice_index store (first + n)) ++ digits_from store first n
+
+-- a number below 2^width with its sign
+abbrev pub signed_text : ℕ → ℕ → List ℕ
+signed_text width value = if nat_lt value (2 ^ (width - 1)) then decimal value else codes "-" ++ decimal (2 ^ width - value)
+
+-- the value of an output
+abbrev pub value_text : List ℕ → ℕ → Kind → ℕ → List ℕ
+value_text store first Bit width = decimal (slice_index store first)
+value_text store first Bool width = decimal (slice_index store first)
+value_text store first Bits width = digits_from store first width
+value_text store first Int width = signed_text width (slice_index store first)
+value_text store first Uint width = decimal (slice_index store first)
+value_text store first Angle width = decimal (slice_index store first)
+
+abbrev pub out_line : List ℕ → Out → List ℕ
+out_line store out = codes "out " ++ out.name ++ codes " " ++ value_text store out.first out.ty.kind out.ty.width ++ codes "\n"
+
+abbrev pub ending_word : Ending → List ℕ
+ending_word Going = []
+ending_word Done = codes "done"
+
+abbrev pub end_line : ℕ → Ending → List ℕ
+end_line tick ending = codes "end " ++ decimal tick ++ codes " " ++ ending_word ending ++ codes "\n"
+
+-- the report of these entries, with the outputs and the end of the hub
+abbrev pub report_text : Plan → Machine → List Played → CtlState → List ℕ
+report_text plan machine entries hub =
+    flat_map (entry_line machine) entries ++ flat_map (out_line hub.store) plan.outs ++ end_line hub.spot.tick hub.ending

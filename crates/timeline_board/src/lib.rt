@@ -1,0 +1,20 @@
+//! What is written of a run and of a refusal: the timeline of all logs, the report, and the line of
+//! a refusal.
+#![tactic(auto)]
+
+mod head;
+mod laws;
+mod lines;
+mod merging;
+mod names;
+mod refusals;
+mod reports;
+#[cfg(test)]
+mod tests;
+mod timeline;
+
+pub use laws::merge_orders;
+pub use merging::Merge;
+pub use refusals::refused;
+pub use reports::report;
+pub use timeline::merge;
