@@ -1,0 +1,13 @@
+pub mod FaultLemmas
+pub mod NamedLemmas
+pub mod OperationLemmas
+pub mod PartLemmas
+pub mod PulseLemmas
+pub mod ReaderLemmas
+pub mod ReportLemmas
+pub mod RunLemmas
+pub mod SoundLemmas
+pub mod SpelledLemmas
+pub mod SpelledWords
+pub mod StatementLemmas
+pub mod Telling

@@ -1,0 +1,101 @@
+-- The operations of statements: what their placement takes, and where the first of them stands.
+use Rattle.std.proofs.Common.{◌≡◌, ◌<◌, ◌≤◌, ◌^◌, ◌∷◌, [], List, ℕ, All, Bool, false, true, pos, sym, ap, ◌∙◌, lit≤, arith}
+use Rattle.std.specs.Prelude.{IsSomeAnd, slice_get}
+use Rattle.std.proofs.lemmas.List.Elements.{All-nil, All-cons, All-map, All-weaker}
+use Rattle.qs_values.specs.declared.span.Span.{Span}
+use Rattle.qs_values.specs.declared.refusal.Refusal.{Refusal}
+use Rattle.box_schedule.specs.declared.block.TOp.{TOp}
+use Rattle.box_schedule.specs.declared.block.TOp.TheOpen.{TOp-F}
+use Rattle.box_schedule.specs.declared.block.TOp.TheViews.{out-roll-TOp}
+use Rattle.box_schedule.specs.Placement.{IsPlain, natural, opened, ticks_of}
+use Rattle.qasm_main.specs.declared.statement.Statement.{Statement}
+use Rattle.qasm_main.specs.declared.statement.Statement.TheVariants.{X, Cx, Delay, Barrier}
+use Rattle.qasm_main.specs.declared.statement.Sentence.{Sentence}
+use Rattle.qasm_main.specs.Statement.{IsKnown, AreKnown}
+use Rattle.qasm_main.specs.Compiled.{op_by, ops_of, tick_out_at, timed}
+
+-- ---- the fields of an operation of a statement
+
+qubits-timed : (span : Span) (qubits : List ℕ) (ticks : ℕ) (barrier : Bool) → (opened (timed span qubits ticks barrier)).qubits ≡ qubits
+qubits-timed span qubits ticks barrier = ap (λ (op : TOp-F TOp). op.qubits) (out-roll-TOp _)
+
+ticks-timed : (span : Span) (qubits : List ℕ) (ticks : ℕ) (barrier : Bool) → (opened (timed span qubits ticks barrier)).length.ticks ≡ pos ticks
+ticks-timed span qubits ticks barrier = ap (λ (op : TOp-F TOp). op.length.ticks) (out-roll-TOp _)
+
+span-timed : (span : Span) (qubits : List ℕ) (ticks : ℕ) (barrier : Bool) → (opened (timed span qubits ticks barrier)).span ≡ span
+span-timed span qubits ticks barrier = ap (λ (op : TOp-F TOp). op.span) (out-roll-TOp _)
+
+-- the qubits of a statement
+abbrev pub qubits_by : Statement → List ℕ
+qubits_by (X q) = q ∷ []
+qubits_by (Cx a b) = a ∷ b ∷ []
+qubits_by (Delay ticks q) = q ∷ []
+qubits_by (Barrier qubits) = qubits
+
+-- how many ticks a statement lasts
+abbrev pub ticks_by : Statement → ℕ
+ticks_by (X q) = 4
+ticks_by (Cx a b) = 8
+ticks_by (Delay ticks q) = ticks
+ticks_by (Barrier qubits) = 0
+
+pub qubits-op : (span : Span) (x : Statement) → (opened (op_by span x)).qubits ≡ qubits_by x
+qubits-op span (X q) = qubits-timed span (q ∷ []) 4 false
+qubits-op span (Cx a b) = qubits-timed span (a ∷ b ∷ []) 8 false
+qubits-op span (Delay ticks q) = qubits-timed span (q ∷ []) ticks false
+qubits-op span (Barrier qubits) = qubits-timed span qubits 0 true
+
+pub ticks-op : (span : Span) (x : Statement) → ticks_of (op_by span x) ≡ ticks_by x
+ticks-op span (X q) = ap natural (ticks-timed span (q ∷ []) 4 false)
+ticks-op span (Cx a b) = ap natural (ticks-timed span (a ∷ b ∷ []) 8 false)
+ticks-op span (Delay ticks q) = ap natural (ticks-timed span (q ∷ []) ticks false)
+ticks-op span (Barrier qubits) = ap natural (ticks-timed span qubits 0 true)
+
+span-op : (span : Span) (x : Statement) → (opened (op_by span x)).span ≡ span
+span-op span (X q) = span-timed span (q ∷ []) 4 false
+span-op span (Cx a b) = span-timed span (a ∷ b ∷ []) 8 false
+span-op span (Delay ticks q) = span-timed span (q ∷ []) ticks false
+span-op span (Barrier qubits) = span-timed span qubits 0 true
+
+-- ---- what their placement takes
+
+plain_timed : (span : Span) (qubits : List ℕ) (ticks : ℕ) (barrier : Bool) → All (λ q. q < 3) qubits → ticks ≤ 2 ^ 32 → IsPlain (timed span qubits ticks barrier)
+plain_timed span qubits ticks barrier known short =
+    let has_qubits = qubits-timed span qubits ticks barrier in
+    let has_ticks = ticks-timed span qubits ticks barrier in
+    record {
+      qubits = rw has_qubits (λ i h. omega (arith, known i 0 h));
+      parts = ap (λ (op : TOp-F TOp). op.length.parts) (out-roll-TOp _);
+      short = λ n e. let same : ticks ≡ n = cc in omega arith;
+      inner = ap (λ (op : TOp-F TOp). op.inner) (out-roll-TOp _);
+      fixed = ap (λ (op : TOp-F TOp). op.fixed) (out-roll-TOp _);
+    }
+
+-- the qubits of one operation
+abbrev AreQubits : List ℕ → Type 0
+AreQubits qubits = All (λ q. q < 3) qubits
+
+one_qubit : (q : ℕ) → q < 3 → AreQubits (q ∷ [])
+one_qubit q known = All-cons (λ p. p < 3) q [] known (All-nil (λ p. p < 3))
+
+plain_by : (span : Span) (x : Statement) → IsKnown x → IsPlain (op_by span x)
+plain_by span (X q) known = plain_timed span (q ∷ []) 4 false (one_qubit q known) (lit≤ tt)
+plain_by span (Cx a b) known = plain_timed span (a ∷ b ∷ []) 8 false (All-cons (λ p. p < 3) a (b ∷ []) known.0 (one_qubit b known.1)) (lit≤ tt)
+plain_by span (Delay ticks q) known = plain_timed span (q ∷ []) ticks false (one_qubit q known.1) known.0
+plain_by span (Barrier qubits) known = plain_timed span qubits 0 true known (lit≤ tt)
+
+-- What is known of the statements is what the placement takes.
+pub plain_ops : (sentences : List Sentence) → All AreKnown sentences → All IsPlain (ops_of sentences)
+plain_ops sentences known =
+    All-map IsPlain (λ s. op_by s.span s.statement) sentences
+    (All-weaker AreKnown (λ s. IsPlain (op_by s.span s.statement)) (λ s h. plain_by s.span s.statement h) sentences known)
+
+-- ---- the place of a refusal
+
+-- The first operation stands where the first statement does.
+pub first_place : (sentences : List Sentence) (span : Span) (refusal : Refusal) → IsSomeAnd (slice_get (ops_of sentences) 0) (λ op. (opened op).span ≡ span)
+    → refusal ≡ tick_out_at span → IsSomeAnd (slice_get sentences 0) (λ s. refusal ≡ tick_out_at s.span)
+first_place [] span refusal first is = first
+first_place (s ∷ ss) span refusal first is =
+    let same : s.span ≡ span = sym (span-op s.span s.statement) ∙ first in
+    cc

@@ -1,0 +1,110 @@
+-- The report of a run by picks is the undivided run's.
+use Rattle.std.proofs.Common.{◌≡◌, ℕ, ◌<◌, ◌≤◌, List, [], ◌∷◌, ◌++◌, Bool, true, false, length, map, ap, sym, ◌∙◌, refl, subst, arith}
+use Rattle.std.specs.Prelude.{All, Some, slice_get}
+use Rattle.std.specs.List.{flat_map}
+use Rattle.std.proofs.lemmas.List.Elements.{All-append, All-cons, All-nil, All-weaker}
+use Rattle.std.proofs.lemmas.List.Sorted.{All-permutation}
+use Rattle.plan_tree.specs.declared.plan.Plan.{Plan}
+use Rattle.plan_tree.specs.declared.plan.Event.{Event}
+use Rattle.plan_tree.specs.declared.plan.PlanStmt.{PlanStmt}
+use Rattle.plan_tree.specs.declared.plan.PlanStmt.TheVariants.{Block}
+use Rattle.plan_tree.specs.Run.{Outcome, run_of}
+use Rattle.plan_tree.specs.Sound.{IsSound, IsSoundEvent, IsSoundStmt}
+use Rattle.qs_machine.specs.BuiltIn.{built_in}
+use Rattle.qs_machine.specs.declared.machine.Machine.{Machine}
+use Rattle.controller_machine.specs.declared.ctl.Played.{Played}
+use Rattle.controller_machine.specs.Log.{timeline_of}
+use Rattle.controller_machine.specs.Ctl.{CtlState}
+use Rattle.controller_core.specs.declared.core_state.Counted.{Counted}
+use Rattle.controller_core.specs.Core.{CoreState, HaveEnded, states_of}
+use Rattle.controller_core.specs.Reached.{IsLast, IsReached, ending_as}
+use Rattle.timeline_board.specs.Conditions.{AreNamed, HubHolds, IsNamed}
+use Rattle.timeline_board.specs.Order.{IsMerge, IsOrdered, logs_of}
+use Rattle.timeline_board.specs.Report.{end_line, entry_line, out_line, report_text}
+use Rattle.qasm_main.specs.declared.statement.Statement.{Statement}
+use Rattle.qasm_main.specs.declared.statement.Statement.TheVariants.{X, Cx, Delay, Barrier}
+use Rattle.qasm_main.specs.declared.statement.Sentence.{Sentence}
+use Rattle.qasm_main.specs.BuiltIn.{no_tape}
+use Rattle.qasm_main.specs.Compiled.{IsBodyBy, IsCompiled, IsPlanOf, is_left_out, pulse_at, pulses_by, pulses_from, pulses_of, w4, w8}
+use Rattle.qasm_main.specs.Named.{DeedHas, StmtHas}
+use Rattle.qasm_main.specs.Report.{IsReport, run_text}
+use Rattle.qasm_main.proofs.NamedLemmas.{logs-named}
+use Rattle.qasm_main.proofs.RunLemmas.{ended-logs, hub-last, merged}
+
+-- The built-in machine has a port and a waveform of this number.
+abbrev IsPort : ℕ → Type 0
+IsPort p = p < 6
+
+abbrev IsWave : ℕ → Type 0
+IsWave w = w < 3
+
+abbrev HasWave : Event → Type 0
+HasWave e = DeedHas IsWave e.act
+
+waves-by : (start : ℕ) (s : Statement) → All HasWave (pulses_by start s)
+waves-by start (X q) = All-cons HasWave (pulse_at start q w4) [] (omega arith) (All-nil HasWave)
+waves-by start (Cx a b) = All-cons HasWave (pulse_at start a w8) (pulse_at start b w8 ∷ []) (omega arith) (All-cons HasWave (pulse_at start b w8) [] (omega arith) (All-nil HasWave))
+waves-by start (Delay ticks q) = All-nil HasWave
+waves-by start (Barrier qubits) = All-nil HasWave
+
+waves-from : (sentences : List Sentence) (starts : List ℕ) → All HasWave (pulses_from sentences starts)
+waves-from [] starts = All-nil HasWave
+waves-from (s ∷ ss) [] = All-nil HasWave
+waves-from (s ∷ ss) (start ∷ starts) = All-append HasWave (pulses_by start s.statement) (pulses_from ss starts) (waves-by start s.statement) (waves-from ss starts)
+
+-- the statements of a compiled body have the machine's waveforms
+body-waves : (left_out : Bool) (sentences : List Sentence) (body : List PlanStmt) → IsBodyBy left_out sentences body → All (StmtHas (λ p. Unit {0}) IsWave) body
+body-waves true sentences body is =
+    let Has = StmtHas (λ p. Unit {0}) IsWave in
+    subst (All Has) (sym is) (All-nil Has)
+body-waves false sentences body is =
+    let Has = StmtHas (λ p. Unit {0}) IsWave in
+    let waves = All-permutation HasWave (pulses_of sentences) is.0.events is.2.events (waves-from sentences _) in
+    let both = All-weaker HasWave (λ e. Unit {0} × DeedHas IsWave e.act) (λ e h. (tt, h)) is.0.events waves in
+    subst (All Has) (sym is.1) (All-cons Has (Block is.0) [] both (All-nil Has))
+
+-- of a sound plan's events, the ports are the plan's
+stmt-ports : (plan : Plan) → length plan.owner ≡ 6 → (stmt : PlanStmt) → IsSoundStmt plan stmt → StmtHas (λ p. Unit {0}) IsWave stmt → StmtHas IsPort IsWave stmt
+stmt-ports plan six (Block b) sound waves = λ k d h. (omega (arith, (sound.events k d h).port, six), (waves k d h).1)
+
+body-named : (plan : Plan) → IsSound plan → IsCompiled plan → All (StmtHas IsPort IsWave) plan.body
+body-named plan sound compiled =
+    let waves = body-waves (is_left_out compiled.0) compiled.0 plan.body compiled.1.body in
+    λ k d h. stmt-ports plan (ap length compiled.1.owner) _ (sound.body k d h) (waves k d h)
+
+named : (p : Played) → IsPort p.port × IsWave p.wave → IsNamed built_in p
+named p has = record { port = has.0; wave = has.1 }
+
+-- The machine has the ports and waveforms of all that was played.
+pub are-named : (core : CoreState) → IsReached core → HaveEnded core → IsCompiled core.plan → AreNamed built_in (logs_of (states_of core))
+are-named core reached ended compiled =
+    ended-logs (λ log. All (IsNamed built_in) log) core reached ended
+    (λ k. All-weaker (λ p. IsPort p.port × IsWave p.wave) (IsNamed built_in) named _ (logs-named IsPort IsWave core.plan core.tape k (body-named core.plan reached.sound compiled)))
+
+first-holds : (cs : List Counted) → 1 ≤ length cs → HubHolds [] (map (λ c. c.ctl) cs)
+first-holds [] some = absurd (omega (arith, some))
+first-holds (c ∷ cs) some = λ v ty is. absurd cc
+
+-- A plan without variables asks nothing of the hub's store.
+pub hub-holds : (core : CoreState) (plan : Plan) → core.plan ≡ plan → IsReached core → plan.vars ≡ [] → HubHolds plan.vars (states_of core)
+hub-holds core plan is_plan reached none =
+    let some : 1 ≤ core.plan.controllers = reached.sound.some in
+    subst (λ vars. HubHolds vars (states_of core)) (sym none) (first-holds core.controllers (omega (arith, some, reached.controllers)))
+
+-- the text of a report is that of the run whose last state the hub has
+report-run : (plan : Plan) (entries : List Played) (hub : CtlState) → IsLast plan no_tape hub
+    → report_text plan built_in entries hub ≡ run_text plan built_in entries (run_of plan no_tape)
+report-run plan entries hub last =
+    let run : Outcome = run_of plan no_tape in
+    ap (λ store. flat_map (entry_line built_in) entries ++ flat_map (out_line store) plan.outs ++ end_line hub.spot.tick hub.ending) last.store
+    ∙ ap (λ tick. flat_map (entry_line built_in) entries ++ flat_map (out_line run.store) plan.outs ++ end_line tick hub.ending) last.tick
+    ∙ ap (λ ending. flat_map (entry_line built_in) entries ++ flat_map (out_line run.store) plan.outs ++ end_line run.tick ending) last.ending
+
+-- The report of a core that ran a plan is that of the plan's run.
+pub is-report : (core : CoreState) (plan : Plan) (entries : List Played) (hub : CtlState) → core.plan ≡ plan → core.tape ≡ no_tape → IsReached core → HaveEnded core
+    → IsMerge entries (logs_of (states_of core)) → slice_get (states_of core) 0 ≡ Some hub
+    → IsReport plan built_in (run_of plan no_tape) (report_text plan built_in entries hub)
+is-report core plan entries hub is_plan is_tape reached ended is_merge at = subst (λ p. IsReport p built_in (run_of p no_tape) (report_text p built_in entries hub)) is_plan (
+    let ordered = subst (λ tape. IsOrdered (timeline_of (run_of core.plan tape).trace) entries) is_tape (merged core entries reached ended is_merge) in
+    let last = subst (λ tape. IsLast core.plan tape hub) is_tape (hub-last core hub reached ended at) in
+    record { entries = entries; ordered = ordered; lines = report-run core.plan entries hub last })

@@ -1,0 +1,20 @@
+use Rattle.std.proofs.Common.{rules}
+use Rattle.qasm_main.proofs.OperationLemmas.{first_place, plain_ops}
+use Rattle.qasm_main.proofs.SoundLemmas.{sound_plan}
+use Rattle.qasm_main.proofs.compile.plan_of.Goals as goal
+
+pub schedule-requires-clause-plain : goal.schedule-requires-clause-plain
+schedule-requires-clause-plain c = rw c.in_ok-block.ensures (plain_ops c.args.sentences.now c.requires.known)
+
+pub returns-in-Err-TickOut-clause-plan : goal.returns-in-Err-TickOut-clause-plan
+returns-in-Err-TickOut-clause-plan c =
+    let places = rw (c.in-Err-TickOut.field-0-is, c.in_ok-block.ensures) at c.in-Err-TickOut.ensures.places in
+    (places.0, first_place c.args.sentences.now _ _ places.1 c.tick_out.ensures)
+
+pub returns-clause-sound : goal.returns-clause-sound
+returns-clause-sound c =
+    let places = rw c.in_ok-block.ensures at c.in-Ok.ensures.places in
+    let earliest = rw (c.in_ok-block.ensures, places.0) at c.in-Ok.ensures.earliest in
+    sound_plan c.args.sentences.now _
+    (record { known = c.requires.known; few = c.requires.few; short = places.2; admissible = earliest.0 })
+    (search rules)

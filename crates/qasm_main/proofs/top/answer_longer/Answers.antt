@@ -1,0 +1,11 @@
+use Rattle.std.proofs.Common.{inl, subst, sym}
+use Rattle.std.specs.Prelude.{IsSome}
+use Rattle.timeline_board.specs.Refused.{name_of}
+use Rattle.qasm_main.proofs.Telling.{long-named}
+use Rattle.qasm_main.proofs.top.answer_longer.Goals as goal
+
+pub tell_refusal-requires : goal.tell_refusal-requires
+tell_refusal-requires g c = subst (λ r. IsSome (name_of r.code)) (sym c.in-Ok.ensures) long-named
+
+pub returns-in-Err : goal.returns-in-Err
+returns-in-Err g c = inl (c.want_of_memory.ensures _)

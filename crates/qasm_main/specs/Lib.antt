@@ -1,0 +1,13 @@
+pub mod Source
+pub mod Statement
+pub mod Spelled
+pub mod BuiltIn
+pub mod Compiled
+pub mod Named
+pub mod Reads
+pub mod Words
+pub mod Report
+pub mod Refused
+pub mod Ran
+pub mod Answer
+pub mod Faults

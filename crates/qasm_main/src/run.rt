@@ -1,0 +1,42 @@
+ghost use Rattle.std.specs.Prelude.{◌≡◌, [], IfOk};
+ghost use Rattle.plan_tree.specs.Sound.{IsSound};
+ghost use Rattle.qasm_main.specs.Ran.{IsRunOf};
+
+use crate::builtin::MAIL;
+use crate::split::split;
+use controller_core::{Core, Counts};
+use plan_tree::Plan;
+use qs_machine::Machine;
+use qs_values::{List, Memory, Tape};
+use std::alloc::Global;
+
+/// A run by picks that has ended: its core, the counts of its picks, and the plan that was run on
+/// this machine.
+#[derive(Drop)]
+pub struct Ran {
+    pub core: Core,
+    pub counts: Counts,
+    pub plan: Plan,
+    pub machine: Machine,
+}
+
+/// Runs a plan of the built-in machine by sweeps over its controllers.
+pub fn run(alloc: Global, plan: Plan) -> Result<Ran, Memory>
+    requires sound { IsSound plan }
+    requires inputs { plan.inputs ≡ [] }
+    ensures { IfOk result (IsRunOf plan) }
+{
+    let split = split(alloc, &plan)?;
+    let tape = Tape {
+        bits: List::new(alloc),
+        inputs: List::new(alloc),
+    };
+    let mut core = Core::new(alloc, &split.parts, &plan, &tape, MAIL)?;
+    let counts = core.run_order(&split.parts, &[]);
+    Ok(Ran {
+        core,
+        counts,
+        plan,
+        machine: Machine::builtin(alloc)?,
+    })
+}
