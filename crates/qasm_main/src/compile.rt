@@ -13,14 +13,14 @@ use qs_values::{Affine, Halt, List, Memory, Refusal, Span};
 use std::alloc::{AllocError, Global};
 
 /// The waveform `w4` of `x`, and how many ticks it lasts.
-const W4: u16 = 0;
+const SHORT_WAVE: u16 = 0;
 
-const W4_TICKS: u64 = 4;
+const SHORT_TICKS: u64 = 4;
 
 /// The waveform `w8` of `cx`, and how many ticks it lasts.
-const W8: u16 = 1;
+const LONG_WAVE: u16 = 1;
 
-const W8_TICKS: u64 = 8;
+const LONG_TICKS: u64 = 8;
 
 /// The code of a block that is too long.
 const TICK_OUT: u16 = 203;
@@ -56,9 +56,9 @@ fn operation(alloc: Global, sentence: &Sentence) -> Result<TOp, AllocError>
 {
     let span = sentence.span;
     match &sentence.statement {
-        Statement::X(qubit) => timed(alloc, span, &[*qubit], W4_TICKS, false),
+        Statement::X(qubit) => timed(alloc, span, &[*qubit], SHORT_TICKS, false),
         Statement::Cx(control, target) => {
-            timed(alloc, span, &[*control, *target], W8_TICKS, false)
+            timed(alloc, span, &[*control, *target], LONG_TICKS, false)
         }
         Statement::Delay(ticks, qubit) => timed(alloc, span, &[*qubit], *ticks, false),
         Statement::Barrier(qubits) => timed(alloc, span, qubits.as_slice(), 0, true),
@@ -98,10 +98,10 @@ fn put_pulses(events: &mut Vec<Event>, start: u64, statement: &Statement) -> Res
     ensures { OnOk result (events.new.items ≡ events.old.items ++ pulses_by start statement.now) }
 {
     match statement {
-        Statement::X(qubit) => events.push(pulse(start, *qubit, W4))?,
+        Statement::X(qubit) => events.push(pulse(start, *qubit, SHORT_WAVE))?,
         Statement::Cx(control, target) => {
-            events.push(pulse(start, *control, W8))?;
-            events.push(pulse(start, *target, W8))?;
+            events.push(pulse(start, *control, LONG_WAVE))?;
+            events.push(pulse(start, *target, LONG_WAVE))?;
         }
         Statement::Delay(_, _) | Statement::Barrier(_) => {}
     }
