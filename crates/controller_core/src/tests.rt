@@ -1,5 +1,6 @@
 ghost use Rattle.std.specs.Prelude.{◌≡◌, ◌<◌, All, IfOk};
-ghost use Rattle.controller_core.specs.Example.{IsReady, example_part, example_parts, example_plan, example_tape};
+ghost use Rattle.plan_tree.specs.Example.{example_part, example_parts, example_plan, example_tape};
+ghost use Rattle.controller_core.specs.Example.{IsReady};
 
 use crate::{Core, Counts, Stepped};
 use controller_machine::{Ctl, Ctls, Ending, Played};

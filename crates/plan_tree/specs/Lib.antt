@@ -4,3 +4,4 @@ pub mod Run
 pub mod Parts
 pub mod Acts
 pub mod Sound
+pub mod Example

@@ -1,4 +1,4 @@
-use Rattle.controller_core.proofs.ExampleLemmas.{plan-sound}
+use Rattle.plan_tree.proofs.ExampleLemmas.{plan-sound}
 use Rattle.controller_core.proofs.tests.make_core.Goals as goal
 
 pub new-requires-clause-sound : goal.new-requires-clause-sound
