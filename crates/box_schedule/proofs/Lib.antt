@@ -2,3 +2,4 @@ pub mod PlacementLemmas
 pub mod ClockLemmas
 pub mod EarliestLemmas
 pub mod StepLemmas
+pub mod TestLemmas

@@ -1,5 +1,5 @@
 -- What holds between two operations while a block is placed, with one clock per qubit.
-use Rattle.std.proofs.Common.{◌≡◌, ℕ, ◌+◌, ◌*◌, ◌^◌, ◌<◌, ◌≤◌, max, List, [], ◌∷◌, ◌++◌, length, take, get_or, All, ℤ, pos, negsuc, if◌then◌else◌, slice_index, inl, inr, refl, ap, sym, subst, ◌∙◌, arith, length-append}
+use Rattle.std.proofs.Common.{◌≡◌, ℕ, ◌+◌, ◌*◌, ◌^◌, ◌<◌, ◌≤◌, max, List, [], ◌∷◌, ◌++◌, length, take, get_or, All, if◌then◌else◌, slice_index, inl, inr, refl, ap, sym, subst, ◌∙◌, arith, length-append}
 use Rattle.std.proofs.lemmas.List.{take_more, length-take-le}
 use Rattle.std.proofs.lemmas.Bool.{cond-true, cond-false, cases_Bool}
 use Rattle.box_schedule.specs.declared.block.TOp.{TOp}
@@ -15,12 +15,8 @@ pub record HasPlaced (done : List TOp) (clocks : List ℕ) (latest : ℕ) (start
   pub clocks_are : (q : ℕ) → q < 32 → slice_index clocks q ≡ clock_of (begun_behind [] done) q
   pub below : (q : ℕ) → q < 32 → slice_index clocks q ≤ length done * 2 ^ 32
 
-natural-le : (z : ℤ) (m : ℕ) → ((n : ℕ) → z ≡ pos n → n ≤ m) → natural z ≤ m
-natural-le (pos n) m below = below n refl
-natural-le (negsuc n) m below = omega arith
-
 pub ticks_of-plain : (op : TOp) → IsPlain op → ticks_of op ≤ 2 ^ 32
-ticks_of-plain op plain = natural-le (opened op).length.ticks (2 ^ 32) plain.short
+ticks_of-plain op plain = subst (λ z. natural z ≤ 2 ^ 32) (sym plain.short.1) plain.short.2
 
 -- Where the next operation begins, by the clocks.
 pub start_from_clocks : (done : List TOp) (op : TOp) (clocks : List ℕ) (latest : ℕ) (starts : List ℕ) → IsPlain op → HasPlaced done clocks latest starts

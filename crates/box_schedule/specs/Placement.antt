@@ -8,7 +8,7 @@ use Rattle.box_schedule.specs.declared.block.Placed.{Placed}
 use Rattle.box_schedule.specs.declared.refusal.BoxRefusal.{BoxRefusal}
 use Rattle.box_schedule.specs.declared.refusal.BoxRefusal.TheVariants.{TickOut, Memory}
 
--- a constant number of ticks
+-- a constant number of ticks; a plain operation has none below 0
 abbrev pub natural : ℤ → ℕ
 natural (pos n) = n
 natural (negsuc n) = 0
@@ -83,6 +83,6 @@ IsEarliest ops starts = IsAdmissible ops starts × ((others : List ℕ) → IsAd
 pub record IsPlain (op : TOp) : Type 0 where
   pub qubits : (i : ℕ) → i < length (opened op).qubits → slice_index (opened op).qubits i < 32
   pub parts : (opened op).length.parts ≡ []
-  pub short : (n : ℕ) → (opened op).length.ticks ≡ pos n → n ≤ 2 ^ 32
+  pub short : (n : ℕ) × ((opened op).length.ticks ≡ pos n) × (n ≤ 2 ^ 32)
   pub inner : (opened op).inner ≡ None
   pub fixed : (opened op).fixed ≡ None

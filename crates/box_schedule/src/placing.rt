@@ -15,8 +15,8 @@ const QUBITS: usize = 32;
 const LONGEST: u64 = 1 << 40;
 
 /// When the operations of a block begin: each as soon as the earlier ones on its qubits have ended, and no
-/// earlier start is possible at any of them. Lengths are constant so far, so `values`, the value in ticks of
-/// each stretch by its number, isn't read yet.
+/// earlier start is possible at any of them. Lengths are constant so far, from 0 to 2^32 ticks, so `values`,
+/// the value in ticks of each stretch by its number, isn't read yet.
 ///
 /// Refused with `TickOut`, at the first operation, where the block lasts longer than 2^40 ticks.
 pub fn schedule(alloc: Global, block: &TBlock, values: &List<u64>) -> Result<Placed, BoxRefusal>
@@ -56,11 +56,12 @@ fn place(alloc: Global, ops: &[TOp]) -> Result<Placed, AllocError>
     })
 }
 
-/// How many ticks an operation lasts.
+/// How many ticks an operation of constant length lasts.
 fn ticks(op: &TOp) -> u64
+    requires { IsPlain op.now }
     ensures { result ≡ ticks_of op.now }
 {
-    op.length.ticks.max(0) as u64
+    op.length.ticks as u64
 }
 
 /// The greatest clock of these qubits, 0 without a qubit.

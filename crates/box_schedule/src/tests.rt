@@ -146,7 +146,7 @@ fn make_op(
 ) -> Result<TOp, AllocError>
     ensures { IfOk result IsPlain }
 {
-    assert!(rt; qubits.iter().all(|q| *q < 32) && ticks <= LONG);
+    assert!(rt; qubits.iter().all(|q| *q < 32) && 0 <= ticks && ticks <= LONG);
     Ok(TOp {
         span: Span { line, col: 1 },
         qubits: List::from_vec(Vec::from_slice(alloc, qubits)?),

@@ -66,7 +66,7 @@ plain_timed span qubits ticks barrier known short =
     record {
       qubits = rw has_qubits (λ i h. omega (arith, known i 0 h));
       parts = ap (λ (op : TOp-F TOp). op.length.parts) (out-roll-TOp _);
-      short = λ n e. let same : ticks ≡ n = cc in omega arith;
+      short = (ticks, has_ticks, short);
       inner = ap (λ (op : TOp-F TOp). op.inner) (out-roll-TOp _);
       fixed = ap (λ (op : TOp-F TOp). op.fixed) (out-roll-TOp _);
     }
