@@ -4,9 +4,10 @@ use Rattle.qs_values.specs.declared.tape.Tape.{Tape}
 use Rattle.plan_tree.specs.declared.plan.Plan.{Plan}
 use Rattle.plan_tree.specs.Acts.{planned_acts}
 use Rattle.controller_machine.specs.Ctl.{CtlState, state_after}
+use Rattle.controller_machine.specs.Last.{IsLast, ending_as}
 use Rattle.controller_machine.proofs.Entries.{run-ending}
 use Rattle.controller_machine.proofs.Standing.{IsAt, ended-at, last-ending, last-store, last-tick, log-at, state-at}
-use Rattle.controller_core.specs.Reached.{Follows, IsLast, ending_as}
+use Rattle.controller_core.specs.Reached.{Follows}
 
 -- a controller that has made all of its planned acts is in the run's last state
 at-last : (plan : Plan) (tape : Tape) (k n : ℕ) (c : CtlState) → IsAt plan tape k n c → n ≡ length (planned_acts plan tape k) → IsLast plan tape c

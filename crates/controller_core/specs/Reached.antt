@@ -2,27 +2,15 @@
 use Rattle.std.specs.Prelude.{◌≡◌, ◌↔◌, ℕ, ◌≤◌, length, map, sum, take, slice_get, Some}
 use Rattle.qs_values.specs.declared.tape.Tape.{Tape}
 use Rattle.plan_tree.specs.declared.plan.Plan.{Plan}
-use Rattle.plan_tree.specs.Run.{run_of, Ending as RunEnding, Done as RunDone}
 use Rattle.plan_tree.specs.Acts.{planned_acts}
 use Rattle.plan_tree.specs.Parts.{numbers, part_of}
 use Rattle.plan_tree.specs.Sound.{IsSound, Fits}
-use Rattle.controller_machine.specs.declared.ctl.Ending.{Ending}
-use Rattle.controller_machine.specs.declared.ctl.Ending.TheVariants.{Done}
 use Rattle.controller_machine.specs.declared.ctl.Want.TheVariants.{Ended}
 use Rattle.controller_core.specs.declared.core_state.Counted.{Counted}
 use Rattle.controller_machine.specs.Log.{log_of}
-use Rattle.controller_machine.specs.Ctl.{CtlState, want_of, state_after}
+use Rattle.controller_machine.specs.Ctl.{want_of, state_after}
+use Rattle.controller_machine.specs.Last.{IsLast}
 use Rattle.controller_core.specs.Core.{CoreState, no_mail}
-
--- how a controller has ended where its run has ended so
-abbrev pub ending_as : RunEnding → Ending
-ending_as RunDone = Done
-
--- a controller in its last state: tick, store and ending are the run's
-pub record IsLast (plan : Plan) (tape : Tape) (c : CtlState) : Type 0 where
-  pub tick : c.spot.tick ≡ (run_of plan tape).tick
-  pub store : c.store ≡ (run_of plan tape).store
-  pub ending : c.ending ≡ ending_as (run_of plan tape).ending
 
 -- Controller k stands behind the first of its planned acts, and has ended where it has made all of them: each controller's last state has the run's tick, store and ending.
 pub record Follows (plan : Plan) (tape : Tape) (k : ℕ) (c : Counted) : Type 0 where

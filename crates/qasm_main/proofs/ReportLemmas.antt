@@ -1,35 +1,32 @@
 -- The report of a run by picks is the undivided run's.
-use Rattle.std.proofs.Common.{◌≡◌, ℕ, ◌<◌, ◌≤◌, List, [], ◌∷◌, ◌++◌, Bool, true, false, length, map, ap, sym, ◌∙◌, refl, subst, arith}
+use Rattle.std.proofs.Common.{◌≡◌, ℕ, ◌<◌, ◌≤◌, List, [], ◌∷◌, Bool, true, false, length, map, ap, sym, subst, arith}
 use Rattle.std.specs.Prelude.{All, Some, slice_get}
-use Rattle.std.specs.List.{flat_map}
 use Rattle.std.proofs.lemmas.List.Elements.{All-append, All-cons, All-nil, All-weaker}
 use Rattle.std.proofs.lemmas.List.Sorted.{All-permutation}
 use Rattle.plan_tree.specs.declared.plan.Plan.{Plan}
 use Rattle.plan_tree.specs.declared.plan.Event.{Event}
 use Rattle.plan_tree.specs.declared.plan.PlanStmt.{PlanStmt}
 use Rattle.plan_tree.specs.declared.plan.PlanStmt.TheVariants.{Block}
-use Rattle.plan_tree.specs.Run.{Outcome, run_of}
-use Rattle.plan_tree.specs.Sound.{IsSound, IsSoundEvent, IsSoundStmt}
+use Rattle.plan_tree.specs.Run.{run_of}
+use Rattle.plan_tree.specs.Sound.{IsSound, IsSoundStmt}
 use Rattle.qs_machine.specs.BuiltIn.{built_in}
-use Rattle.qs_machine.specs.declared.machine.Machine.{Machine}
 use Rattle.controller_machine.specs.declared.ctl.Played.{Played}
-use Rattle.controller_machine.specs.Log.{timeline_of}
 use Rattle.controller_machine.specs.Ctl.{CtlState}
 use Rattle.controller_core.specs.declared.core_state.Counted.{Counted}
 use Rattle.controller_core.specs.Core.{CoreState, HaveEnded, states_of}
-use Rattle.controller_core.specs.Reached.{IsLast, IsReached, ending_as}
+use Rattle.controller_core.specs.Reached.{IsReached}
 use Rattle.timeline_board.specs.Conditions.{AreNamed, HubHolds, IsNamed}
-use Rattle.timeline_board.specs.Order.{IsMerge, IsOrdered, logs_of}
-use Rattle.timeline_board.specs.Report.{end_line, entry_line, out_line, report_text}
+use Rattle.timeline_board.specs.Order.{IsMerge, logs_of}
+use Rattle.timeline_board.specs.Report.{IsReport, report_text}
+use Rattle.timeline_board.proofs.ReportLemmas.{planned-all, report-is-run}
 use Rattle.qasm_main.specs.declared.statement.Statement.{Statement}
 use Rattle.qasm_main.specs.declared.statement.Statement.TheVariants.{X, Cx, Delay, Barrier}
 use Rattle.qasm_main.specs.declared.statement.Sentence.{Sentence}
 use Rattle.qasm_main.specs.BuiltIn.{no_tape}
-use Rattle.qasm_main.specs.Compiled.{IsBodyBy, IsCompiled, IsPlanOf, is_left_out, pulse_at, pulses_by, pulses_from, pulses_of, w4, w8}
+use Rattle.qasm_main.specs.Compiled.{IsBodyBy, IsCompiled, is_left_out, pulse_at, pulses_by, pulses_from, pulses_of, w4, w8}
 use Rattle.qasm_main.specs.Named.{DeedHas, StmtHas}
-use Rattle.qasm_main.specs.Report.{IsReport, run_text}
 use Rattle.qasm_main.proofs.NamedLemmas.{logs-named}
-use Rattle.qasm_main.proofs.RunLemmas.{ended-logs, hub-last, merged}
+use Rattle.qasm_main.proofs.RunLemmas.{hub-last, logs-ended}
 
 -- The built-in machine has a port and a waveform of this number.
 abbrev IsPort : ℕ → Type 0
@@ -78,8 +75,9 @@ named p has = record { port = has.0; wave = has.1 }
 -- The machine has the ports and waveforms of all that was played.
 pub are-named : (core : CoreState) → IsReached core → HaveEnded core → IsCompiled core.plan → AreNamed built_in (logs_of (states_of core))
 are-named core reached ended compiled =
-    ended-logs (λ log. All (IsNamed built_in) log) core reached ended
-    (λ k. All-weaker (λ p. IsPort p.port × IsWave p.wave) (IsNamed built_in) named _ (logs-named IsPort IsWave core.plan core.tape k (body-named core.plan reached.sound compiled)))
+    subst (AreNamed built_in) (sym (logs-ended core reached ended))
+    (planned-all (λ log. All (IsNamed built_in) log) core.plan core.tape
+    (λ k. All-weaker (λ p. IsPort p.port × IsWave p.wave) (IsNamed built_in) named _ (logs-named IsPort IsWave core.plan core.tape k (body-named core.plan reached.sound compiled))))
 
 first-holds : (cs : List Counted) → 1 ≤ length cs → HubHolds [] (map (λ c. c.ctl) cs)
 first-holds [] some = absurd (omega (arith, some))
@@ -91,20 +89,12 @@ hub-holds core plan is_plan reached none =
     let some : 1 ≤ core.plan.controllers = reached.sound.some in
     subst (λ vars. HubHolds vars (states_of core)) (sym none) (first-holds core.controllers (omega (arith, some, reached.controllers)))
 
--- the text of a report is that of the run whose last state the hub has
-report-run : (plan : Plan) (entries : List Played) (hub : CtlState) → IsLast plan no_tape hub
-    → report_text plan built_in entries hub ≡ run_text plan built_in entries (run_of plan no_tape)
-report-run plan entries hub last =
-    let run : Outcome = run_of plan no_tape in
-    ap (λ store. flat_map (entry_line built_in) entries ++ flat_map (out_line store) plan.outs ++ end_line hub.spot.tick hub.ending) last.store
-    ∙ ap (λ tick. flat_map (entry_line built_in) entries ++ flat_map (out_line run.store) plan.outs ++ end_line tick hub.ending) last.tick
-    ∙ ap (λ ending. flat_map (entry_line built_in) entries ++ flat_map (out_line run.store) plan.outs ++ end_line run.tick ending) last.ending
-
 -- The report of a core that ran a plan is that of the plan's run.
 pub is-report : (core : CoreState) (plan : Plan) (entries : List Played) (hub : CtlState) → core.plan ≡ plan → core.tape ≡ no_tape → IsReached core → HaveEnded core
     → IsMerge entries (logs_of (states_of core)) → slice_get (states_of core) 0 ≡ Some hub
     → IsReport plan built_in (run_of plan no_tape) (report_text plan built_in entries hub)
-is-report core plan entries hub is_plan is_tape reached ended is_merge at = subst (λ p. IsReport p built_in (run_of p no_tape) (report_text p built_in entries hub)) is_plan (
-    let ordered = subst (λ tape. IsOrdered (timeline_of (run_of core.plan tape).trace) entries) is_tape (merged core entries reached ended is_merge) in
-    let last = subst (λ tape. IsLast core.plan tape hub) is_tape (hub-last core hub reached ended at) in
-    record { entries = entries; ordered = ordered; lines = report-run core.plan entries hub last })
+is-report core plan entries hub is_plan is_tape reached ended is_merge at =
+    let merged = subst (IsMerge entries) (logs-ended core reached ended) is_merge in
+    let report = report-is-run core.plan core.tape built_in entries hub reached.sound merged (hub-last core hub reached ended at) in
+    subst (λ p. IsReport p built_in (run_of p no_tape) (report_text p built_in entries hub)) is_plan
+    (subst (λ tape. IsReport core.plan built_in (run_of core.plan tape) (report_text core.plan built_in entries hub)) is_tape report)

@@ -12,13 +12,14 @@ use Rattle.controller_core.specs.Core.{CoreState, Runs, start_core}
 use Rattle.controller_core.specs.Reached.{IsReached}
 use Rattle.qs_machine.specs.BuiltIn.{built_in}
 use Rattle.box_schedule.specs.Placement.{length_of, longest}
+use Rattle.timeline_board.specs.Report.{IsReport}
 use Rattle.qasm_main.specs.declared.statement.Sentence.{Sentence}
 use Rattle.qasm_main.specs.declared.top.Plain.{Plain}
 use Rattle.qasm_main.specs.Source.{Reading, Built, NotBuilt, reading_of}
 use Rattle.qasm_main.specs.BuiltIn.{mail, no_tape}
 use Rattle.qasm_main.specs.Compiled.{IsPlanOf, ops_of, tick_out_at}
 use Rattle.qasm_main.specs.Words.{file_of, usage}
-use Rattle.qasm_main.specs.Report.{IsReport, counts_line}
+use Rattle.qasm_main.specs.Report.{counts_line}
 use Rattle.qasm_main.specs.Refused.{refusal_at, refusal_text, too_long}
 
 -- a status, and the whole text that goes with it

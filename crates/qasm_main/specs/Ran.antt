@@ -7,9 +7,10 @@ use Rattle.plan_tree.specs.Run.{run_of}
 use Rattle.controller_core.specs.Core.{Runs, start_core}
 use Rattle.controller_core.specs.Reached.{IsReached}
 use Rattle.qs_machine.specs.BuiltIn.{built_in}
+use Rattle.timeline_board.specs.Report.{IsReport}
 use Rattle.qasm_main.specs.declared.run.Ran.{Ran}
 use Rattle.qasm_main.specs.BuiltIn.{mail, no_tape}
-use Rattle.qasm_main.specs.Report.{IsReport, counts_line}
+use Rattle.qasm_main.specs.Report.{counts_line}
 
 -- A core ran this plan on the built-in machine by sweeps, until all of its controllers had ended.
 pub record IsRunOf (plan : Plan) (ran : Ran) : Type 0 where

@@ -5,4 +5,5 @@ pub mod Merges
 pub mod LineLemmas
 pub mod ValueLemmas
 pub mod Timelines
+pub mod ReportLemmas
 pub mod ExampleLemmas

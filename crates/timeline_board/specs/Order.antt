@@ -3,13 +3,22 @@ use Rattle.std.specs.Prelude.{◌≡◌, ℕ, List, [], ◌∷◌, map, slice_ge
 use Rattle.std.specs.List.{flat_map}
 use Rattle.std.specs.List.Sorted.{IsPermutation, IsSortedByKey}
 use Rattle.std.specs.Ordering.{is_lt}
+use Rattle.qs_values.specs.declared.tape.Tape.{Tape}
+use Rattle.plan_tree.specs.declared.plan.Plan.{Plan}
+use Rattle.plan_tree.specs.Acts.{planned_acts}
+use Rattle.plan_tree.specs.Parts.{numbers}
 use Rattle.plan_tree.specs.Sound.{start_cmp}
 use Rattle.controller_machine.specs.Ctl.{CtlState}
+use Rattle.controller_machine.specs.Log.{log_of}
 use Rattle.controller_machine.specs.declared.ctl.Played.{Played}
 
 -- the logs of controllers
 abbrev pub logs_of : List CtlState → List (List Played)
 logs_of states = map (λ c. c.log) states
+
+-- the logs of controllers that have made all of their planned acts
+abbrev pub logs_planned : Plan → Tape → List (List Played)
+logs_planned plan tape = map (λ k. log_of (planned_acts plan tape k)) (numbers 0 plan.controllers)
 
 abbrev pub play_key : Played → ℕ × ℕ
 play_key p = (p.tick, p.port)

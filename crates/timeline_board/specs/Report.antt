@@ -1,15 +1,21 @@
 -- The report of a run. This project's own.
-use Rattle.std.specs.Prelude.{ℕ, ◌+◌, ◌-◌, ◌^◌, List, [], ◌++◌, codes, decimal, map, slice_get, slice_index, unwrap_or, if◌then◌else◌, nat_lt, Option, Some, None, zero, suc}
+use Rattle.std.specs.Prelude.{◌≡◌, ℕ, ◌+◌, ◌-◌, ◌^◌, List, [], ◌++◌, codes, decimal, map, slice_get, slice_index, unwrap_or, if◌then◌else◌, nat_lt, Option, Some, None, zero, suc}
 use Rattle.std.specs.List.{flat_map}
 use Rattle.qs_values.specs.declared.kind.Kind.{Kind}
 use Rattle.qs_values.specs.declared.kind.Kind.TheVariants.{Bit, Bool, Bits, Int, Uint, Angle}
 use Rattle.qs_values.specs.declared.kind.Out.{Out}
+use Rattle.qs_values.specs.declared.tape.Tape.{Tape}
 use Rattle.plan_tree.specs.declared.plan.Plan.{Plan}
+use Rattle.plan_tree.specs.Run.{Outcome, run_of}
+use Rattle.plan_tree.specs.Sound.{IsSound}
 use Rattle.qs_machine.specs.declared.machine.Machine.{Machine}
 use Rattle.controller_machine.specs.declared.ctl.Played.{Played}
 use Rattle.controller_machine.specs.declared.ctl.Ending.{Ending}
 use Rattle.controller_machine.specs.declared.ctl.Ending.TheVariants.{Going, Done}
 use Rattle.controller_machine.specs.Ctl.{CtlState}
+use Rattle.controller_machine.specs.Last.{IsLast, ending_as}
+use Rattle.controller_machine.specs.Log.{timeline_of}
+use Rattle.timeline_board.specs.Order.{IsMerge, IsOrdered, logs_planned}
 
 -- the name of this number
 abbrev pub name_at : List (List ℕ) → ℕ → List ℕ
@@ -64,3 +70,19 @@ end_line tick ending = codes "end " ++ decimal tick ++ codes " " ++ ending_word 
 abbrev pub report_text : Plan → Machine → List Played → CtlState → List ℕ
 report_text plan machine entries hub =
     flat_map (entry_line machine) entries ++ flat_map (out_line hub.store) plan.outs ++ end_line hub.spot.tick hub.ending
+
+-- these entries, the outputs from the run's last store, and its end
+abbrev pub run_text : Plan → Machine → List Played → Outcome → List ℕ
+run_text plan machine entries run =
+    flat_map (entry_line machine) entries ++ flat_map (out_line run.store) plan.outs ++ end_line run.tick (ending_as run.ending)
+
+-- the report of a run: its timeline by tick and then by port number
+pub record IsReport (plan : Plan) (machine : Machine) (run : Outcome) (text : List ℕ) : Type 0 where
+  pub entries : List Played
+  pub ordered : IsOrdered (timeline_of run.trace) entries
+  pub lines : text ≡ run_text plan machine entries run
+
+-- The merged logs of controllers that have made all of their planned acts, reported with the hub's last state, are the report of the undivided run.
+abbrev pub ReportIsRun : Type 0
+ReportIsRun = (plan : Plan) (tape : Tape) (machine : Machine) (entries : List Played) (hub : CtlState)
+    → IsSound plan → IsMerge entries (logs_planned plan tape) → IsLast plan tape hub → IsReport plan machine (run_of plan tape) (report_text plan machine entries hub)

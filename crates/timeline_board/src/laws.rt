@@ -1,6 +1,13 @@
 ghost use Rattle.timeline_board.specs.Order.{MergeOrders};
+ghost use Rattle.timeline_board.specs.Report.{ReportIsRun};
 
 /// Logs that stand in order are merged to all of their entries in order.
 pub fn merge_orders()
     ensures { MergeOrders }
+{}
+
+/// The merged logs of all planned acts of a sound plan, reported with the hub's last state, are the
+/// report of the undivided run.
+pub fn report_is_run()
+    ensures { ReportIsRun }
 {}
