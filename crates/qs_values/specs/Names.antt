@@ -1,6 +1,7 @@
 -- Names: words that aren't reserved (OpenQASM 3.0, identifiers, in this project's profile; categories of Unicode).
 use Rattle.std.specs.Prelude.{ℕ, List, [], ◌∷◌, Bool, true, false, ◌&&◌, ◌||◌, not, codes, nat_eq, nat_le}
 use Rattle.std.specs.List.{list_any, list_all}
+use Rattle.std.specs.Char.{is_ascii_alphabetic}
 use Rattle.std.specs.Str.{bytes_eq}
 use Rattle.unicode.specs.declared.properties.GeneralCategory.{GeneralCategory}
 use Rattle.unicode.specs.declared.properties.GeneralCategory.TheVariants.{UppercaseLetter, LowercaseLetter, TitlecaseLetter, ModifierLetter, OtherLetter, LetterNumber}
@@ -16,9 +17,9 @@ is_letter OtherLetter = true
 is_letter LetterNumber = true
 is_letter _ = false
 
--- whether a character begins a word: `_` or a letter
+-- whether a character begins a word: `_`, an ASCII letter, or past ASCII a letter by its category
 abbrev pub begins_word : ℕ → Bool
-begins_word c = nat_eq c 95 || is_letter (general_category c)
+begins_word c = nat_eq c 95 || is_ascii_alphabetic c || (nat_le 128 c && is_letter (general_category c))
 
 -- whether a character goes on with a word
 abbrev pub continues_word : ℕ → Bool

@@ -1,6 +1,7 @@
 ghost use Rattle.std.specs.Prelude.{◌≤◌};
 
-use crate::{Frac, Num, NumRefusal, is_name, to_angle};
+use crate::{Frac, Num, NumRefusal, begins_word, is_name, to_angle};
+use unicode::properties::GeneralCategory;
 
 /// 10^18, which both parts of a fraction are below in size.
 const LIMIT: i64 = 1_000_000_000_000_000_000;
@@ -224,5 +225,23 @@ fn names(rt: HostRuntime) {
     ];
     for (text, want) in table {
         assert_eq!(rt; is_name(text), want, "{text}");
+    }
+}
+
+/// Of ASCII, `_` and the characters of a letter's category alone begin a word.
+#[test]
+fn ascii_letters(rt: HostRuntime) {
+    for code in 0..128u8 {
+        let c = code as char;
+        let is_letter = matches!(
+            GeneralCategory::for_char(c),
+            GeneralCategory::UppercaseLetter
+                | GeneralCategory::LowercaseLetter
+                | GeneralCategory::TitlecaseLetter
+                | GeneralCategory::ModifierLetter
+                | GeneralCategory::OtherLetter
+                | GeneralCategory::LetterNumber
+        );
+        assert_eq!(rt; begins_word(c), c == '_' || is_letter, "{code}");
     }
 }

@@ -79,11 +79,12 @@ fn is_letter(category: GeneralCategory) -> bool
     )
 }
 
-/// Whether a character begins a word: `_`, or a character of category Lu, Ll, Lt, Lm, Lo or Nl.
+/// Whether a character begins a word: `_`, an ASCII letter, or a character of category Lu, Ll, Lt,
+/// Lm, Lo or Nl. Of ASCII these are the letters alone.
 pub fn begins_word(c: char) -> bool
     ensures { result ≡ begins_word c }
 {
-    c == '_' || is_letter(GeneralCategory::for_char(c))
+    c == '_' || c.is_ascii_alphabetic() || '\u{80}' <= c && is_letter(GeneralCategory::for_char(c))
 }
 
 /// Whether a character goes on with a word: one that begins a word, or `0` to `9`.
