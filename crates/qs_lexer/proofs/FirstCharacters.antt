@@ -1,0 +1,33 @@
+-- The first character of a word is none of the others that a piece begins with.
+use Rattle.std.proofs.Common.{◌≡◌, ℕ, ◌<◌, Bool, true, false, ◌&&◌, ◌||◌, nat_eq, refl, arith, sym, ◌∙◌, true≢false}
+use Rattle.std.proofs.lemmas.Bool.{agree_below_at, false_from_ne_true, and_from, or_parts}
+use Rattle.std.proofs.lemmas.Bool.Decides.{nat_tests}
+use Rattle.qs_values.specs.Names.{begins_word}
+use Rattle.qs_lexer.specs.declared.state.State.TheVariants.{Word}
+use Rattle.qs_lexer.specs.Forms.{is_blank, is_decimal_digit}
+use Rattle.qs_lexer.specs.Scan.{at_start, is_one_sign}
+
+-- the characters that begin a piece other than a word
+abbrev begins_other : ℕ → Bool
+begins_other c = is_blank c || (nat_eq c 47 || (nat_eq c 64 || (nat_eq c 35 || (nat_eq c 36 || (nat_eq c 34 || (nat_eq c 48 || (nat_eq c 46 || (is_decimal_digit c || is_one_sign c))))))))
+
+below_of_other : (c : ℕ) → begins_other c ≡ true → c < 128
+below_of_other c h = grind (arith, nat_tests)
+
+word_or_other : (c : ℕ) → begins_word c ≡ true → begins_other c ≡ false
+word_or_other c word = false_from_ne_true (begins_other c) (λ other.
+    true≢false (sym (and_from (begins_word c) (begins_other c) word other) ∙ agree_below_at (λ d. begins_word d && begins_other d) (λ d. false) 128 c refl (below_of_other c other)))
+
+-- a word's first character, unless it begins a pragma
+pub word_starts : (first : Bool) (c : ℕ) → begins_word c ≡ true → (nat_eq c 112 && first) ≡ false → at_start first c ≡ Word
+word_starts first c word no_pragma =
+    let blank = or_parts (is_blank c) _ (word_or_other c word) in
+    let slash = or_parts (nat_eq c 47) _ blank.1 in
+    let at = or_parts (nat_eq c 64) _ slash.1 in
+    let hash = or_parts (nat_eq c 35) _ at.1 in
+    let dollar = or_parts (nat_eq c 36) _ hash.1 in
+    let quote = or_parts (nat_eq c 34) _ dollar.1 in
+    let zero = or_parts (nat_eq c 48) _ quote.1 in
+    let point = or_parts (nat_eq c 46) _ zero.1 in
+    let digit = or_parts (is_decimal_digit c) _ point.1 in
+    rw (digit.1, word, blank.0, slash.0, at.0, hash.0, no_pragma, dollar.0, quote.0, zero.0, point.0, digit.0) refl

@@ -1,0 +1,6 @@
+pub mod Forms
+pub mod Values
+pub mod Cut
+pub mod Lexed
+pub mod Scan
+pub mod Once

@@ -1,0 +1,242 @@
+ghost use Rattle.std.specs.Prelude.{◌≡◌, ◌<◌, ◌≤◌, ◌-◌, ◌*◌, ◌/◌, ◌^◌, pos, drop, length, min, count_by, MatchResult, ◌&&◌, nat_lt, if◌then◌else◌};
+ghost use Rattle.std.specs.Str.{chars};
+ghost use Rattle.qs_values.specs.Lowest.{IsWide};
+ghost use Rattle.qs_lexer.specs.Forms.{is_decimal_digit};
+ghost use Rattle.qs_lexer.specs.Values.{IsCutOf, IsLexeme, IsTooWide, KindIs, digit_value, is_digit, with_digit, value_of, based_value, whole_value, is_mantissa, mantissa, places, exponent, has_minus, scaled};
+
+use crate::shape::Shape;
+use crate::token::TokenKind;
+use qs_values::{Frac, NumRefusal};
+
+/// What a number times 10^17 stays below, where it may be within its limit.
+const CAP: u128 = 1_000_000_000_000_000_000_000_000_000_000_000_000;
+
+/// What an exponent is cut to: it is above the number of a source's characters.
+const LONGEST: u128 = 2_000_000;
+
+/// What a whole number stays below.
+const LIMIT: u128 = 18_446_744_073_709_551_616;
+
+/// 10^17, of which a cut number is a whole multiple of a part.
+const SCALE: i128 = 100_000_000_000_000_000;
+
+/// The value of a digit.
+fn digit_value(c: char) -> u32
+    ensures { result ≡ digit_value c }
+{
+    if c <= '9' {
+        (c as u32).saturating_sub(48)
+    } else if c <= 'F' {
+        c as u32 - 55
+    } else {
+        (c as u32).saturating_sub(87)
+    }
+}
+
+fn is_decimal_digit(c: char) -> bool
+    ensures { result ≡ is_decimal_digit c }
+{
+    '0' <= c && c <= '9'
+}
+
+/// Whether a character is a digit of base 16, or of a base up to 10.
+fn is_digit(base: u128, c: char) -> bool
+    ensures { result ≡ is_digit base c }
+{
+    is_decimal_digit(c) || base == 16 && ('A' <= c && c <= 'F' || 'a' <= c && c <= 'f')
+}
+
+/// A number with one more digit, cut to `most`; other characters add none.
+fn with_digit(most: u128, base: u128, n: u128, c: char) -> u128
+    ensures { result ≡ min (with_digit base n c) most }
+{
+    if is_digit(base, c) {
+        n.saturating_mul(base)
+            .saturating_add(digit_value(c) as u128)
+            .min(most)
+    } else {
+        n.min(most)
+    }
+}
+
+/// The digits of a text as a decimal number, cut to `LIMIT`.
+fn decimal_value(text: &str) -> u128
+    ensures { result ≡ min (value_of 10 (chars text.now)) LIMIT }
+{
+    text.chars().fold(0, |n, c| with_digit(LIMIT, 10, n, c))
+}
+
+/// The digits behind two characters as a number of a base, cut to `LIMIT`.
+fn behind_two(base: u128, text: &str) -> u128
+    requires { 0 < base }
+    ensures { result ≡ min (value_of base (drop 2 (chars text.now))) LIMIT }
+{
+    text.chars()
+        .skip(2)
+        .fold(0, |n, c| with_digit(LIMIT, base, n, c))
+}
+
+/// The value of a whole number with this second character, cut to `LIMIT`.
+fn based_value(text: &str, letter: char) -> u128
+    ensures { result ≡ min (based_value (chars text.now) letter (drop 2 (chars text.now))) LIMIT }
+{
+    match letter {
+        'x' | 'X' => behind_two(16, text),
+        'b' | 'B' => behind_two(2, text),
+        'o' => behind_two(8, text),
+        _ => decimal_value(text),
+    }
+}
+
+/// The value of a whole number, cut to `LIMIT`.
+fn whole_value(text: &str) -> u128
+    ensures { result ≡ min (whole_value (chars text.now)) LIMIT }
+{
+    match text.chars().nth(1) {
+        Some(letter) => based_value(text, letter),
+        None => decimal_value(text),
+    }
+}
+
+/// Whether a character stands before a number's exponent and unit.
+fn is_mantissa(c: char) -> bool
+    ensures { result ≡ is_mantissa c }
+{
+    is_decimal_digit(c) || c == '_' || c == '.'
+}
+
+/// The digits of a mantissa as a number, cut to `CAP`.
+fn mantissa_value(text: &str) -> u128
+    ensures { result ≡ min (value_of 10 (mantissa (chars text.now))) CAP }
+{
+    text.chars()
+        .take_while(|c| is_mantissa(*c))
+        .fold(0, |n, c| with_digit(CAP, 10, n, c))
+}
+
+/// How many digits a mantissa has.
+fn digits(text: &str) -> usize
+    ensures { result ≡ count_by is_decimal_digit (mantissa (chars text.now)) }
+{
+    text.chars()
+        .take_while(|c| is_mantissa(*c))
+        .filter(|c| is_decimal_digit(*c))
+        .count()
+}
+
+/// How many digits of a mantissa stand behind the point.
+fn places(text: &str) -> usize
+    ensures { result ≡ places (mantissa (chars text.now)) }
+{
+    text.chars()
+        .take_while(|c| is_mantissa(*c))
+        .skip_while(|c| *c != '.')
+        .filter(|c| is_decimal_digit(*c))
+        .count()
+}
+
+/// The size of the exponent, cut to `LONGEST`.
+fn exponent(text: &str) -> u128
+    ensures { result ≡ min (exponent (chars text.now)) LONGEST }
+{
+    text.chars()
+        .skip_while(|c| is_mantissa(*c))
+        .fold(0, |n, c| with_digit(LONGEST, 10, n, c))
+}
+
+/// Whether a minus stands before the exponent.
+fn has_minus(text: &str) -> bool
+    ensures { result ≡ has_minus (chars text.now) }
+{
+    text.chars().skip_while(|c| is_mantissa(*c)).nth(1) == Some('-')
+}
+
+/// A number with one more digit, cut to `CAP`, where digits are left to be read.
+fn with_leading(so_far: (u128, u128), c: char) -> (u128, u128)
+    ensures { result ≡ (if nat_lt 0 so_far.1 && is_decimal_digit c then (min (with_digit 10 so_far.0 c) CAP, so_far.1 - 1) else so_far) }
+{
+    let (n, left) = so_far;
+    if left > 0 && is_decimal_digit(c) {
+        (with_digit(CAP, 10, n, c), left - 1)
+    } else {
+        (n, left)
+    }
+}
+
+/// The mantissa's digits but the last ones as a number, cut to `CAP`.
+fn without_last(text: &str, last: u128) -> u128
+    ensures { result ≡ min (value_of 10 (mantissa (chars text.now)) / (10 ^ last)) CAP }
+{
+    let left = (digits(text) as u128).saturating_sub(last);
+    text.chars()
+        .take_while(|c| is_mantissa(*c))
+        .fold((0, left), |so_far, c| with_leading(so_far, c))
+        .0
+}
+
+/// A number times a power of 10, cut to `CAP`.
+fn times_power(n: u128, up: u128) -> u128
+    ensures { result ≡ min (n * 10 ^ up) CAP }
+{
+    n.saturating_mul(10u128.pow(up.min(36) as u32)).min(CAP)
+}
+
+/// The mantissa times one power of 10, over another, cut to a whole number and to `CAP`.
+fn shifted(text: &str, up: u128, down: u128) -> u128
+    ensures { result ≡ min ((value_of 10 (mantissa (chars text.now)) * 10 ^ up) / (10 ^ down)) CAP }
+{
+    if up < down {
+        without_last(text, down - up)
+    } else {
+        times_power(mantissa_value(text), up - down)
+    }
+}
+
+/// A number without its unit times 10^17, cut to a whole number and to `CAP`.
+fn scaled(text: &str) -> u128
+    requires { length (chars text.now) ≤ 1048576 }
+    ensures { result ≡ min (scaled (chars text.now)) CAP }
+{
+    let places = places(text) as u128;
+    let exponent = exponent(text);
+    if has_minus(text) {
+        shifted(text, 17, places + exponent)
+    } else {
+        shifted(text, 17 + exponent, places)
+    }
+}
+
+/// A number with a point, an exponent or a unit, cut to 17 decimals.
+fn cut(text: &str) -> Result<Frac, NumRefusal>
+    requires { length (chars text.now) ≤ 1048576 }
+    ensures { MatchResult result (λ f. IsCutOf (chars text.now) f) (λ refusal. IsWide (pos (scaled (chars text.now))) (pos (10 ^ 17))) }
+{
+    let value = scaled(text);
+    if value == CAP {
+        return Err(NumRefusal::TooWide);
+    }
+    Frac::of(value as i128, SCALE)
+}
+
+/// What a token of this shape and text is; an error where it is a number past its limit.
+pub fn kind_of(shape: Shape, text: &str) -> Result<TokenKind, NumRefusal>
+    requires lexeme { IsLexeme shape }
+    requires short { length (chars text.now) ≤ 1048576 }
+    ensures { MatchResult result (λ kind. KindIs shape (chars text.now) kind) (λ refusal. IsTooWide shape (chars text.now)) }
+{
+    match shape {
+        Shape::Physical => match u32::try_from(decimal_value(text)) {
+            Ok(number) => Ok(TokenKind::Physical(number)),
+            Err(_) => Err(NumRefusal::TooWide),
+        },
+        Shape::Whole => match u64::try_from(whole_value(text)) {
+            Ok(number) => Ok(TokenKind::Whole(number)),
+            Err(_) => Err(NumRefusal::TooWide),
+        },
+        Shape::Decimal => Ok(TokenKind::Decimal(cut(text)?)),
+        Shape::Time(unit) => Ok(TokenKind::Time(cut(text)?, unit)),
+        Shape::Text => Ok(TokenKind::Text),
+        Shape::Sign => Ok(TokenKind::Sign),
+        _ => Ok(TokenKind::Word),
+    }
+}
