@@ -8,7 +8,6 @@ use Rattle.outside.specs.Shelf.{ShelfState}
 use Rattle.outside.specs.Sink.{SinkState}
 use Rattle.plan_tree.specs.Run.{Ending, Done}
 use Rattle.qasm_main.specs.declared.top.Plain.{Plain}
-use Rattle.qasm_main.specs.Source.{Reading, Built, NotBuilt, reading_of}
 use Rattle.qasm_main.specs.Faults.{IsReadFault, IsWriteFault}
 use Rattle.qasm_main.specs.Answer.{AnswersWords, AnswersSource, AnswersFile, Finishes, Told, status_by}
 
@@ -40,13 +39,15 @@ ending-read Done = λ e. absurd (omega (arith, e))
 ending-write : (ending : Ending) → status_by ending ≢ 5
 ending-write Done = λ e. absurd (omega (arith, e))
 
-source-told : (reading : Reading) (old new : SinkState) (plain : Plain) → AnswersSource reading old new plain → TellsNoFault old new plain.status
-source-told (Built sentences) old new plain (inl run) = record { told = _; finishes = run.1.told; no_read = ending-read _; no_write = ending-write _ }
-source-told (Built sentences) old new plain (inr long) = record { told = _; finishes = long.told.finishes; no_read = λ e. absurd (omega (arith, e)); no_write = λ e. absurd (omega (arith, e)) }
-source-told (NotBuilt place) old new plain alone = record { told = _; finishes = alone.finishes; no_read = λ e. absurd (omega (arith, e)); no_write = λ e. absurd (omega (arith, e)) }
+source-told : (most : ℕ) (bytes : List ℕ) (old new : SinkState) (plain : Plain) → AnswersSource most bytes old new plain → TellsNoFault old new plain.status
+source-told most bytes old new plain (inl built) = elim built.answers [
+  | inl run ↦ record { told = _; finishes = run.1.told; no_read = ending-read _; no_write = ending-write _ }
+  | inr long ↦ record { told = _; finishes = long.told.finishes; no_read = λ e. absurd (omega (arith, e)); no_write = λ e. absurd (omega (arith, e)) }
+]
+source-told most bytes old new plain (inr refused) = record { told = _; finishes = refused.told.finishes; no_read = λ e. absurd (omega (arith, e)); no_write = λ e. absurd (omega (arith, e)) }
 
 file-told : (most : ℕ) (name : List ℕ) (taken : Taken) (old new : SinkState) (plain : Plain) → AnswersFile most name taken old new plain → TellsNoFault old new plain.status
-file-told most name (Whole bytes) old new plain answers = source-told (reading_of most bytes) old new plain answers
+file-told most name (Whole bytes) old new plain answers = source-told most bytes old new plain answers
 file-told most name Longer old new plain alone = record { told = _; finishes = alone.finishes; no_read = λ e. absurd (omega (arith, e)); no_write = λ e. absurd (omega (arith, e)) }
 
 same-write : (old new : SinkState) (status : ℕ) → new ≡ old → status ≡ 7 → IsWriteFault old new status

@@ -1,15 +1,23 @@
 -- Reading statement by statement.
-use Rattle.std.proofs.Common.{◌≡◌, ◌≢◌, ℕ, ◌+◌, ◌-◌, ◌<◌, ◌≤◌, List, [], ◌∷◌, ◌++◌, All, length, ap, subst, sym, ◌∙◌, refl, arith, MatchResult}
-use Rattle.std.specs.Prelude.{Some, None, zero, suc, Result, Ok, Err}
+use Rattle.std.proofs.Common.{◌≡◌, ◌≢◌, ℕ, ◌+◌, ◌-◌, ◌<◌, ◌≤◌, List, [], ◌∷◌, ◌++◌, All, length, ap, subst, sym, ◌∙◌, refl, arith, inl, inr}
+use Rattle.std.specs.Prelude.{Some, None, zero, suc, Result, Ok, Err, IsSome}
+use Rattle.std.proofs.lemmas.List.{length-append}
 use Rattle.std.proofs.lemmas.List.Elements.{All-push}
 use Rattle.qs_values.specs.declared.span.Span.{Span}
+use Rattle.qs_values.specs.declared.refusal.Refusal.{Refusal}
 use Rattle.qs_values.specs.declared.refusal.Halt.{Halt}
 use Rattle.qs_values.specs.declared.refusal.Halt.TheVariants.{Refused, Memory}
+use Rattle.qs_lexer.specs.declared.refusal.LexRefusal.{LexRefusal}
+use Rattle.qs_lexer.specs.declared.refusal.LexRefusal.TheVariants.{NotUtf8, BadChar, OpenComment, OpenText, NumberTooWide, TooManyTokens, Memory as LexMemory}
+use Rattle.qs_lexer.specs.declared.token.Token.{Token}
+use Rattle.qs_lexer.specs.Lexed.{HasFault, Lexes, LexIs}
+use Rattle.timeline_board.specs.Refused.{name_of, names}
 use Rattle.qasm_main.specs.declared.statement.Statement.{Statement}
 use Rattle.qasm_main.specs.declared.statement.Sentence.{Sentence}
-use Rattle.qasm_main.specs.Refused.{refusal_at}
-use Rattle.qasm_main.specs.Reads.{Reads}
-use Rattle.qasm_main.specs.Source.{Part, Reading, Built, NotBuilt, IsWellFormed, statement_at, behind_gap, front_of, place_behind, with_sentence, reading_from, reading_of}
+use Rattle.qasm_main.specs.Refused.{fault_refusal, refusal_at}
+use Rattle.qasm_main.specs.Reads.{HaltIs, IsRefused, Reads, ReadsTokens}
+use Rattle.qasm_main.specs.Source.{Part, Reading, Built, NotBuilt, IsWellFormed, statement_at, with_sentence, reading_of}
+use Rattle.qasm_main.proofs.Telling.{built-named}
 
 -- a reading behind these sentences
 abbrev pub with_sentences : List Sentence → Reading → Reading
@@ -28,86 +36,104 @@ with_sentences-not_built : (ss : List Sentence) (place : Span) → with_sentence
 with_sentences-not_built [] place = refl
 with_sentences-not_built (t ∷ ss) place = ap (with_sentence t) (with_sentences-not_built ss place)
 
--- these sentences were read, and what is left is read from its place on
-pub record SoFar (most counter : ℕ) (bytes : List ℕ) (sentences : List Sentence) (place : Span) (rest : List ℕ) : Type 0 where
-  pub same : with_sentences sentences (reading_from (most - counter) place rest) ≡ reading_of most bytes
+-- these sentences were read, and so many more may be read of what is left
+pub record SoFar (most left : ℕ) (tokens : List Token) (sentences : List Sentence) (rest : List Token) : Type 0 where
+  pub same : with_sentences sentences (reading_of left rest) ≡ reading_of most tokens
   pub formed : All (λ s. IsWellFormed s.statement) sentences
-  pub few : length sentences ≤ counter
-  pub lines : place.line + length rest ≤ length bytes + 1
-  pub columns : place.col + length rest ≤ length bytes + 1
+  pub few : length sentences + left ≤ most
 
-reading_from-nothing : (n : ℕ) (place : Span) (bs : List ℕ) → bs ≡ [] → reading_from n place bs ≡ Built []
-reading_from-nothing n place [] h = refl
-reading_from-nothing n place (b ∷ bs) h = cc
+pub empty : (tokens : List Token) → length tokens ≡ 0 → tokens ≡ []
+empty [] h = refl
+empty (t ∷ ts) h = absurd (omega (arith, h))
 
-reading_from-none : (n : ℕ) (place : Span) (bs : List ℕ) → None ≡ statement_at bs → bs ≢ [] → reading_from n place bs ≡ NotBuilt place
-reading_from-none n place [] h some = absurd (some refl)
-reading_from-none zero place (b ∷ bs) h some = refl
-reading_from-none (suc n) place (b ∷ bs) h some = rw (← h, reading_from) refl
+-- nothing is left
+pub reads-all : {most left : ℕ} {tokens : List Token} {sentences : List Sentence} {rest : List Token} → SoFar most left tokens sentences rest → rest ≡ [] → reading_of most tokens ≡ Built sentences
+reads-all {most} {left} {tokens} {sentences} {rest} so_far none =
+    sym so_far.same ∙ ap (λ r. with_sentences sentences (reading_of left r)) none ∙ nothing-left left ∙ with_sentences-built sentences
+  where
+    nothing-left : (n : ℕ) → with_sentences sentences (reading_of n []) ≡ with_sentences sentences (Built [])
+    nothing-left zero = refl
+    nothing-left (suc n) = refl
 
-reading_from-most : (place : Span) (bs : List ℕ) → bs ≢ [] → reading_from 0 place bs ≡ NotBuilt place
-reading_from-most place [] some = absurd (some refl)
-reading_from-most place (b ∷ bs) some = refl
+reading_of-none : (n : ℕ) (first : Token) (others : List Token) → None ≡ statement_at (first ∷ others) → reading_of n (first ∷ others) ≡ NotBuilt first.span
+reading_of-none zero first others h = refl
+reading_of-none (suc n) first others h = rw (← h, reading_of) refl
 
-nothing_is_none : None ≡ statement_at []
-unfolding statement_at
-nothing_is_none = refl
+pub reading_of-some : (n : ℕ) (first : Token) (others : List Token) (s : Part Statement) → Some s ≡ statement_at (first ∷ others)
+    → reading_of (suc n) (first ∷ others) ≡ with_sentence (record { span = first.span; statement = s.value }) (reading_of n s.rest)
+reading_of-some n first others s h = rw (← h, reading_of) refl
 
--- where what is left of these bytes begins
-abbrev pub place_of_rest : Span → List ℕ → List ℕ → Span
-place_of_rest place bs rest = place_behind place (front_of bs rest)
+-- what is left begins with no statement, or no more may be read
+pub reads-none : {most left : ℕ} {tokens : List Token} {sentences : List Sentence} {rest : List Token} → SoFar most left tokens sentences rest → (first : Token) (others : List Token)
+    → rest ≡ first ∷ others → None ≡ statement_at rest → reading_of most tokens ≡ NotBuilt first.span
+reads-none {most} {left} {tokens} {sentences} {rest} so_far first others is none =
+    sym so_far.same ∙ ap (λ r. with_sentences sentences (reading_of left r)) is
+    ∙ ap (with_sentences sentences) (reading_of-none left first others (none ∙ ap statement_at is)) ∙ with_sentences-not_built sentences first.span
 
-pub reading_from-some : (n : ℕ) (place : Span) (bs : List ℕ) (s : Part Statement) → Some s ≡ statement_at bs →
-    reading_from (suc n) place bs ≡ with_sentence (record { span = place; statement = s.value }) (reading_from n (place_of_rest place bs (behind_gap s.rest)) (behind_gap s.rest))
-reading_from-some n place [] s h = let none = nothing_is_none in cc
-reading_from-some n place (b ∷ bs) s h = rw (← h, reading_from) refl
-
--- one sentence more
-pub one_more : {most counter : ℕ} {bytes : List ℕ} {sentences : List Sentence} {place : Span} {rest : List ℕ} → SoFar most counter bytes sentences place rest → (s : Part Statement) → Some s ≡ statement_at rest → counter < most →
-    (longer : List Sentence) → longer ≡ sentences ++ record { span = place; statement = s.value } ∷ [] → (left : List ℕ) → left ≡ behind_gap s.rest → (next : Span) → next ≡ place_of_rest place rest left →
-    with_sentences longer (reading_from (most - (counter + 1)) next left) ≡ reading_of most bytes
-one_more {most} {counter} {bytes} {sentences} {place} {rest} so_far s h lt longer pushed left gap next moved =
-    let n = most - (counter + 1) in
-    let e : most - counter ≡ suc n = omega arith in
-    let sentence : Sentence = record { span = place; statement = s.value } in
-    ap (λ ss. with_sentences ss (reading_from n next left)) pushed
-    ∙ ap (λ p. with_sentences (sentences ++ sentence ∷ []) (reading_from n p left)) moved
-    ∙ ap (λ bs. with_sentences (sentences ++ sentence ∷ []) (reading_from n (place_of_rest place rest bs) bs)) gap
-    ∙ with_sentences-push sentences sentence (reading_from n (place_of_rest place rest (behind_gap s.rest)) (behind_gap s.rest))
-    ∙ ap (with_sentences sentences) (sym (reading_from-some n place rest s h) ∙ ap (λ k. reading_from k place rest) (sym e)) ∙ so_far.same
+pub reads-most : {most left : ℕ} {tokens : List Token} {sentences : List Sentence} {rest : List Token} → SoFar most left tokens sentences rest → (first : Token) (others : List Token)
+    → rest ≡ first ∷ others → left ≡ 0 → reading_of most tokens ≡ NotBuilt first.span
+reads-most {most} {left} {tokens} {sentences} {rest} so_far first others is none =
+    sym so_far.same ∙ ap (λ r. with_sentences sentences (reading_of left r)) is
+    ∙ ap (λ n. with_sentences sentences (reading_of n (first ∷ others))) none ∙ with_sentences-not_built sentences first.span
 
 -- all are well formed with one more that is
-pub all_formed : (sentences : List Sentence) (s : Sentence) (longer : List Sentence) → longer ≡ sentences ++ s ∷ [] → All (λ t. IsWellFormed t.statement) sentences → IsWellFormed s.statement → All (λ t. IsWellFormed t.statement) longer
+all_formed : (sentences : List Sentence) (s : Sentence) (longer : List Sentence) → longer ≡ sentences ++ s ∷ [] → All (λ t. IsWellFormed t.statement) sentences → IsWellFormed s.statement → All (λ t. IsWellFormed t.statement) longer
 all_formed sentences s longer pushed all formed =
     let is_formed : Sentence → Type 0 = λ t. IsWellFormed t.statement in
     subst (All is_formed) (sym pushed) (All-push is_formed sentences s all formed)
 
--- the reading ends here: with these sentences where nothing is left, and else at this place
-pub record Ends (most : ℕ) (bytes : List ℕ) (sentences : List Sentence) (place : Span) (rest : List ℕ) : Type 0 where
-  pub built : rest ≡ [] → reading_of most bytes ≡ Built sentences
-  pub not_built : rest ≢ [] → reading_of most bytes ≡ NotBuilt place
-
--- it does at what is no statement
-pub ends_at_none : {most counter : ℕ} {bytes : List ℕ} {sentences : List Sentence} {place : Span} {rest : List ℕ} → SoFar most counter bytes sentences place rest → None ≡ statement_at rest → Ends most bytes sentences place rest
-ends_at_none {most} {counter} {bytes} {sentences} {place} {rest} so_far h = record {
-  built = λ nothing. sym so_far.same ∙ ap (with_sentences sentences) (reading_from-nothing (most - counter) place rest nothing) ∙ with_sentences-built sentences;
-  not_built = λ some. sym so_far.same ∙ ap (with_sentences sentences) (reading_from-none (most - counter) place rest h some) ∙ with_sentences-not_built sentences place;
-}
-
--- and after so many statements
-pub ends_at_most : {most counter : ℕ} {bytes : List ℕ} {sentences : List Sentence} {place : Span} {rest : List ℕ} → SoFar most counter bytes sentences place rest → most ≤ counter → Ends most bytes sentences place rest
-ends_at_most {most} {counter} {bytes} {sentences} {place} {rest} so_far h =
-    let e : most - counter ≡ 0 = omega arith in
+-- one sentence more
+pub one-more : {most left : ℕ} {tokens : List Token} {sentences : List Sentence} {rest : List Token} → SoFar most left tokens sentences rest → (first : Token) (others : List Token)
+    → rest ≡ first ∷ others → (s : Part Statement) → Some s ≡ statement_at rest → IsWellFormed s.value → 0 < left → (longer : List Sentence)
+    → longer ≡ sentences ++ record { span = first.span; statement = s.value } ∷ [] → SoFar most (left - 1) tokens longer s.rest
+one-more {most} {left} {tokens} {sentences} {rest} so_far first others is s some formed more longer pushed =
+    let n = left - 1 in
+    let e : left ≡ suc n = omega arith in
+    let sentence : Sentence = record { span = first.span; statement = s.value } in
     record {
-      built = λ nothing. sym so_far.same ∙ ap (with_sentences sentences) (reading_from-nothing (most - counter) place rest nothing) ∙ with_sentences-built sentences;
-      not_built = λ some. sym so_far.same ∙ ap (λ n. with_sentences sentences (reading_from n place rest)) e ∙ ap (with_sentences sentences) (reading_from-most place rest some) ∙ with_sentences-not_built sentences place;
+      same = ap (λ ss. with_sentences ss (reading_of n s.rest)) pushed
+          ∙ with_sentences-push sentences sentence (reading_of n s.rest)
+          ∙ ap (with_sentences sentences) (sym (reading_of-some n first others s (some ∙ ap statement_at is)) ∙ ap (λ k. reading_of k (first ∷ others)) (sym e) ∙ ap (reading_of left) (sym is))
+          ∙ so_far.same;
+      formed = all_formed sentences sentence longer pushed so_far.formed formed;
+      few = omega (arith, so_far.few, ap length pushed ∙ length-append sentences (sentence ∷ []));
     }
 
--- what is answered where the reading ends
-abbrev pub Left : List Sentence → Span → List ℕ → Result (List Sentence) Halt → Type 0
-Left sentences place rest result = MatchResult result (λ s. (s ≡ sentences) × (rest ≡ [])) (λ h. (rest ≢ []) × (h ≡ Refused (refusal_at place)))
+-- a fault that isn't want of memory is a source's first
+fault-of : (bytes : List ℕ) (fault : LexRefusal) → LexIs bytes (Err fault) → fault ≢ LexMemory → HasFault bytes fault
+fault-of bytes (NotUtf8 span) is other = is
+fault-of bytes (BadChar span) is other = is
+fault-of bytes (OpenComment span) is other = is
+fault-of bytes (OpenText span) is other = is
+fault-of bytes (NumberTooWide span) is other = is
+fault-of bytes (TooManyTokens span) is other = is
+fault-of bytes LexMemory is other = absurd (other refl)
 
-pub reads_at_end : {most : ℕ} {bytes : List ℕ} {sentences : List Sentence} {place : Span} {rest : List ℕ} → Ends most bytes sentences place rest → (result : Result (List Sentence) Halt) → Left sentences place rest result → Reads most bytes result
-reads_at_end ends (Ok s) h = ends.built h.1 ∙ ap Built (sym h.0)
-reads_at_end {most} {bytes} {sentences} {place} {rest} ends (Err (Refused r)) h = (place, ends.not_built h.0, (let same : Refused r ≡ Refused (refusal_at place) = h.1 in cc))
-reads_at_end ends (Err Memory) h = tt
+-- a source without tokens is refused for its fault
+pub reads-fault : (most : ℕ) (bytes : List ℕ) (fault : LexRefusal) (halt : Halt) → LexIs bytes (Err fault) → HaltIs fault halt → Reads most bytes (Err halt)
+reads-fault most bytes fault (Refused refusal) is halts = inl (record { fault = fault; has = fault-of bytes fault is halts.0; same = halts.1 })
+reads-fault most bytes fault Memory is halts = tt
+
+-- a source with tokens is read as they are
+pub reads-tokens : (most : ℕ) (bytes : List ℕ) (tokens : List Token) (result : Result (List Sentence) Halt) → Lexes bytes tokens → ReadsTokens most tokens result → Reads most bytes result
+reads-tokens most bytes tokens (Ok sentences) lexes reads = record { tokens = tokens; lexes = lexes; built = reads }
+reads-tokens most bytes tokens (Err (Refused refusal)) lexes reads = inr (record { tokens = tokens; lexes = lexes; place = reads.0; not_built = reads.1; same = reads.2 })
+reads-tokens most bytes tokens (Err Memory) lexes reads = tt
+
+fault-named : (fault : LexRefusal) → fault ≢ LexMemory → IsSome (name_of (fault_refusal fault).code)
+unfolding names
+fault-named (NotUtf8 span) other = refl
+fault-named (BadChar span) other = refl
+fault-named (OpenComment span) other = refl
+fault-named (OpenText span) other = refl
+fault-named (NumberTooWide span) other = refl
+fault-named (TooManyTokens span) other = refl
+fault-named LexMemory other = absurd (other refl)
+
+no-memory : (bytes : List ℕ) (fault : LexRefusal) → HasFault bytes fault → fault ≢ LexMemory
+no-memory bytes fault has is = let none = subst (HasFault bytes) is has in absurd none.fault
+
+-- The code of a source's refusal has a name.
+pub refused-named : (most : ℕ) (bytes : List ℕ) (refusal : Refusal) → IsRefused most bytes refusal → IsSome (name_of refusal.code)
+refused-named most bytes refusal (inl faulty) = subst (λ r. IsSome (name_of r.code)) (sym faulty.same) (fault-named faulty.fault (no-memory bytes faulty.fault faulty.has))
+refused-named most bytes refusal (inr not_built) = subst (λ r. IsSome (name_of r.code)) (sym not_built.same) built-named

@@ -1,30 +1,34 @@
--- Reading the words of a statement that was spelled.
-use Rattle.std.proofs.Common.{◌≡◌, ◌≢◌, ℕ, ◌+◌, ◌-◌, ◌*◌, ◌^◌, ◌<◌, ◌≤◌, List, [], ◌∷◌, ◌++◌, All, length, true, false, nat_eq, nat_le, ◌&&◌, ap, sym, ◌∙◌, refl, append_assoc, inl, inr, rules, arith}
-use Rattle.std.specs.Prelude.{Some, None, zero, suc, codes, decimal}
+-- Reading the tokens of a statement that was spelled.
+use Rattle.std.proofs.Common.{◌≡◌, ◌≢◌, ℕ, ◌+◌, ◌-◌, ◌*◌, ◌^◌, ◌<◌, ◌≤◌, List, [], ◌∷◌, ◌++◌, All, length, map, true, false, nat_eq, nat_le, ◌&&◌, ap, sym, ◌∙◌, refl, append_assoc, inl, inr, rules, arith}
+use Rattle.std.specs.Prelude.{Option, Some, None, zero, suc, codes, decimal}
 use Rattle.std.specs.Int.{IsInRange}
-use Rattle.std.proofs.Math.Nat.{add-zero, zero-add}
+use Rattle.std.specs.Str.{bytes_eq}
+use Rattle.std.proofs.lemmas.Slice.Eq.{bytes_eq-Decides}
+use Rattle.std.proofs.lemmas.List.{length-map}
+use Rattle.std.proofs.Math.Nat.{zero-add, add-zero}
 use Rattle.std.proofs.lemmas.Bool.{le-leb}
 use Rattle.std.proofs.lemmas.Bool.Decides.{eqb_tells}
 use Rattle.std.proofs.lemmas.List.{append-nil}
 use Rattle.std.proofs.lemmas.Fmt.{digits_decimal, digits_value-decimal, decimal_nonempty, length-decimal-le}
 use Rattle.std.proofs.lemmas.Str.Parse.{IsNumeralModel, IsDigitsTest, FoldsDigits, numerals_by_fold}
+use Rattle.qs_lexer.specs.declared.token.Token.{Token}
 use Rattle.qasm_main.specs.declared.statement.Statement.{Statement}
 use Rattle.qasm_main.specs.declared.statement.Statement.TheVariants.{X, Cx, Delay, Barrier}
-use Rattle.qasm_main.specs.Source.{IsWellFormed, is_gap, behind_gap, digit_at, digits_behind, longest_delay, time_by, time_at, qubit_at, next_qubit_at, qubits_behind, ended, statement_at, x_at, cx_at, delay_at, barrier_at}
-use Rattle.qasm_main.specs.Spelled.{operand, more_operands, words_of}
-use Rattle.qasm_main.proofs.StatementLemmas.{digits_behind-none, qubits_behind-none, qubits_behind-some, statement_at-x, statement_at-cx, statement_at-delay, statement_at-barrier}
+use Rattle.qasm_main.specs.Source.{IsWellFormed, Part, behind, digits_behind, first_by, longest_delay, time_by, time_of, time_at, qubit_of, qubit_at, next_qubit_at, qubits_behind, ended, statement_at, statement_by, x_at, cx_at, delay_at, barrier_at}
+use Rattle.qasm_main.specs.Spelled.{operand, operands, more_operands, texts_of, words_of}
+use Rattle.qasm_main.proofs.StatementLemmas.{digits_behind-none, qubits_behind-none, qubits_behind-some}
 
 -- digits alone
-abbrev pub AreDigits : List ℕ → Type 0
+abbrev AreDigits : List ℕ → Type 0
 AreDigits [] = Unit {0}
 AreDigits (c ∷ cs) = IsInRange 48 57 c × AreDigits cs
 
 -- the number of digits behind one that was read
-abbrev pub number_of : ℕ → List ℕ → ℕ
+abbrev number_of : ℕ → List ℕ → ℕ
 number_of n [] = n
 number_of n (c ∷ cs) = number_of (10 * n + (c - 48)) cs
 
-pub digits_test : IsDigitsTest AreDigits
+digits_test : IsDigitsTest AreDigits
 digits_test = search rules
 
 digits_fold : FoldsDigits number_of
@@ -33,124 +37,141 @@ digits_fold = record { empty = λ n. refl; more = λ n c cs range. let e : 10 * 
 numerals : IsNumeralModel AreDigits (number_of 0)
 numerals = numerals_by_fold AreDigits digits_test number_of digits_fold
 
--- digits are read up to what is none
-digits_read : (number count : ℕ) (ds more : List ℕ) → AreDigits ds → None ≡ digit_at 57 more → digits_behind number count (ds ++ more) ≡ record { number = number_of number ds; count = count + length ds; rest = more }
-digits_read number count [] more are none = digits_behind-none number count more none ∙ ap (λ n. record { number = number; count = n; rest = more }) (sym (add-zero count))
-digits_read number count (c ∷ cs) more are none =
+-- digits are read up to the unit
+digits_read : (number count : ℕ) (ds : List ℕ) → AreDigits ds → digits_behind number count (ds ++ codes "dt") ≡ record { number = number_of number ds; count = count + length ds; rest = codes "dt" }
+digits_read number count [] are = ap (λ n. record { number = number; count = n; rest = codes "dt" }) (sym (add-zero count))
+digits_read number count (c ∷ cs) are =
     let test : (nat_le 48 c && nat_le c 57) ≡ true = rw (le-leb 48 c are.0.0, le-leb c 57 are.0.1) refl in
     let counted : count + 1 + length cs ≡ count + length (c ∷ cs) = omega arith in
-    rw (test, digits_behind) (digits_read (10 * number + (c - 48)) (count + 1) cs more are.1 none ∙ ap (λ n. record { number = number_of (10 * number + (c - 48)) cs; count = n; rest = more }) counted)
+    rw (test, digits_behind) (digits_read (10 * number + (c - 48)) (count + 1) cs are.1 ∙ ap (λ n. record { number = number_of (10 * number + (c - 48)) cs; count = n; rest = codes "dt" }) counted)
 
-pub unequal : (a b : ℕ) → a ≢ b → nat_eq a b ≡ false
+unequal : (a b : ℕ) → a ≢ b → nat_eq a b ≡ false
 unequal a b h = elim (eqb_tells a b) as (λ _. nat_eq a b ≡ false) [ inl p ↦ absurd (h p.1) | inr p ↦ p.0 ]
 
--- no gap stands before digits
-behind_gap-digits : (ds more : List ℕ) → AreDigits ds → 0 < length ds → behind_gap (ds ++ more) ≡ ds ++ more
-behind_gap-digits [] more are h = absurd (omega arith)
-behind_gap-digits (c ∷ cs) more are h =
-    let low : 48 ≤ c = are.0.0 in
-    let test : is_gap c ≡ false = rw (unequal c 32 (omega arith), unequal c 9 (omega arith), unequal c 10 (omega arith)) refl in
-    rw (test, behind_gap) refl
-
-time_by-digits : (number count : ℕ) (more : List ℕ) → 1 ≤ count → count ≤ 10 → number ≤ longest_delay → Some (record { value = number; rest = more }) ≡ time_by (record { number = number; count = count; rest = 100 ∷ 116 ∷ more })
-time_by-digits number count more some short small = rw (le-leb 1 count some, le-leb count 10 short, le-leb number longest_delay small) refl
-
--- what is written of a number is digits
-pub are_decimal : (ticks : ℕ) → ticks ≤ longest_delay → AreDigits (decimal ticks)
-are_decimal ticks h = digits_decimal numerals ticks (omega arith)
+time_by-digits : (number count : ℕ) → 1 ≤ count → count ≤ 10 → number ≤ longest_delay → time_by (record { number = number; count = count; rest = codes "dt" }) ≡ Some number
+time_by-digits number count some short small = rw (le-leb 1 count some, le-leb count 10 short, le-leb number longest_delay small) refl
 
 -- a number is read as a time
-time_at-decimal : (ticks : ℕ) (more : List ℕ) → ticks ≤ longest_delay → Some (record { value = ticks; rest = more }) ≡ time_at (decimal ticks ++ 100 ∷ 116 ∷ more)
-unfolding time_at
-time_at-decimal ticks more h =
+time_of-decimal : (ticks : ℕ) → ticks ≤ longest_delay → time_of (decimal ticks ++ codes "dt") ≡ Some ticks
+unfolding time_of
+time_of-decimal ticks h =
     let ds = decimal ticks in
-    let unit = 100 ∷ 116 ∷ more in
     let fits : ticks < 2 ^ 64 = omega arith in
     let below : ticks < 10 ^ 10 = omega arith in
     let short : length ds ≤ 10 = length-decimal-le 10 ticks (omega arith) below fits in
     let some : 0 < length ds = decimal_nonempty ticks fits in
-    let are : AreDigits ds = are_decimal ticks h in
+    let are : AreDigits ds = digits_decimal numerals ticks fits in
     let value : number_of 0 ds ≡ ticks = digits_value-decimal numerals ticks fits in
-    let read : digits_behind 0 0 (ds ++ unit) ≡ record { number = ticks; count = length ds; rest = unit } =
-    digits_read 0 0 ds unit are refl ∙ ap (λ n. record { number = n; count = 0 + length ds; rest = unit }) value ∙ ap (λ n. record { number = ticks; count = n; rest = unit }) (zero-add (length ds)) in
-    time_by-digits ticks (length ds) more some short h ∙ ap time_by (sym read) ∙ ap (λ bs. time_by (digits_behind 0 0 bs)) (sym (behind_gap-digits ds unit are some))
+    let read = digits_read 0 0 ds are ∙ ap (λ n. record { number = n; count = 0 + length ds; rest = codes "dt" }) value ∙ ap (λ n. record { number = ticks; count = n; rest = codes "dt" }) (zero-add (length ds)) in
+    ap time_by read ∙ time_by-digits ticks (length ds) some short h
 
--- a qubit is read
-qubit_at-operand : (q : ℕ) (more : List ℕ) → q < 3 → Some (record { value = q; rest = more }) ≡ qubit_at (32 ∷ operand q ++ more)
-unfolding qubit_at
-qubit_at-operand zero more h = refl
-qubit_at-operand (suc zero) more h = refl
-qubit_at-operand (suc (suc zero)) more h = refl
-qubit_at-operand (suc (suc (suc n))) more h = absurd (omega arith)
+qubit_of-operand : (q : ℕ) → q < 3 → qubit_of (operand q) ≡ Some q
+qubit_of-operand zero h = refl
+qubit_of-operand (suc zero) h = refl
+qubit_of-operand (suc (suc zero)) h = refl
+qubit_of-operand (suc (suc (suc n))) h = absurd (omega arith)
 
--- a comma and a qubit are
-next_qubit_at-operand : (q : ℕ) (more : List ℕ) → q < 3 → Some (record { value = q; rest = more }) ≡ next_qubit_at (44 ∷ 32 ∷ operand q ++ more)
+bytes_eq-same : (w : List ℕ) → bytes_eq w w ≡ true
+bytes_eq-same w = (bytes_eq-Decides w w).1 refl
+
+-- the first of some tokens has the first of their texts
+first-token : (ts : List Token) (w : List ℕ) (ws : List (List ℕ)) → texts_of ts ≡ w ∷ ws → (t : Token) × (others : List Token) × (ts ≡ t ∷ others) × (t.text ≡ w) × (texts_of others ≡ ws)
+first-token [] w ws h = absurd cc
+first-token (t ∷ ts) w ws h = (t, ts, refl, cc, cc)
+
+-- A reading goes on behind so many texts: what it found, and the tokens that are left.
+abbrev GoesOn : {X : Type 0} → Option (Part X) → X → List (List ℕ) → Type 0
+GoesOn {X} found value ws = (rest : List Token) × (found ≡ Some (record { value = value; rest = rest })) × (texts_of rest ≡ ws)
+
+-- a wanted text comes first
+behind-text : (ts : List Token) (w : List ℕ) (ws : List (List ℕ)) → texts_of ts ≡ w ∷ ws → (rest : List Token) × (behind w ts ≡ Some rest) × (texts_of rest ≡ ws)
+behind-text ts w ws h =
+    let f = first-token ts w ws h in
+    let test : bytes_eq f.0.text w ≡ true = ap (λ t. bytes_eq t w) f.3 ∙ bytes_eq-same w in
+    (f.1, ap (behind w) f.2 ∙ rw (test, behind) refl, f.4)
+
+-- a text that has a value comes first
+value-text : {X : Type 0} (value_of : List ℕ → Option X) (ts : List Token) (w : List ℕ) (ws : List (List ℕ)) (value : X) → texts_of ts ≡ w ∷ ws → value_of w ≡ Some value → GoesOn (first_by value_of ts) value ws
+value-text value_of ts w ws value h is =
+    let f = first-token ts w ws h in
+    let some : value_of f.0.text ≡ Some value = ap value_of f.3 ∙ is in
+    (f.1, ap (first_by value_of) f.2 ∙ rw (some, first_by) refl, f.4)
+
+qubit-text : (ts : List Token) (q : ℕ) (ws : List (List ℕ)) → q < 3 → texts_of ts ≡ operand q ∷ ws → GoesOn (qubit_at ts) q ws
+qubit-text ts q ws below h = value-text qubit_of ts (operand q) ws q h (qubit_of-operand q below)
+
+next_qubit-text : (ts : List Token) (q : ℕ) (ws : List (List ℕ)) → q < 3 → texts_of ts ≡ codes "," ∷ operand q ∷ ws → GoesOn (next_qubit_at ts) q ws
 unfolding next_qubit_at
-next_qubit_at-operand q more h = qubit_at-operand q more h
+next_qubit-text ts q ws below h =
+    let comma = behind-text ts (codes ",") (operand q ∷ ws) h in
+    let on = qubit-text comma.0 q ws below comma.2 in
+    (on.0, rw (comma.1, next_qubit_at) on.1, on.2)
 
-no_next_qubit : (more : List ℕ) → None ≡ next_qubit_at (59 ∷ more)
+no-next_qubit : (ts : List Token) (ws : List (List ℕ)) → texts_of ts ≡ codes ";" ∷ ws → None ≡ next_qubit_at ts
 unfolding next_qubit_at
-no_next_qubit more = refl
+no-next_qubit ts ws h =
+    let f = first-token ts (codes ";") ws h in
+    let none : behind (codes ",") (f.0 ∷ f.1) ≡ None = rw (f.3, behind) refl in
+    sym (ap next_qubit_at f.2 ∙ rw (none, next_qubit_at) refl)
 
-tail_below : (q : ℕ) (qs : List ℕ) → All (λ x. x < 3) (q ∷ qs) → All (λ x. x < 3) qs
-tail_below q qs h = λ k d lt. h (suc k) d (omega arith)
+ended-text : (s : Statement) (ts : List Token) (ws : List (List ℕ)) → texts_of ts ≡ codes ";" ∷ ws → GoesOn (ended s ts) s ws
+ended-text s ts ws h =
+    let end = behind-text ts (codes ";") ws h in
+    (end.0, rw (end.1, ended) refl, end.2)
 
--- qubits behind commas are
-qubits_read : (n : ℕ) (before qs more : List ℕ) → All (λ q. q < 3) qs → length (more_operands qs ++ 59 ∷ more) ≤ n → qubits_behind n before (more_operands qs ++ 59 ∷ more) ≡ record { value = before ++ qs; rest = 59 ∷ more }
-qubits_read n before [] more three enough =
-    qubits_behind-none n before (59 ∷ more) (no_next_qubit more) ∙ ap (λ qs. record { value = qs; rest = 59 ∷ more }) (sym (append-nil before))
-qubits_read n before (q ∷ qs) more three enough =
-    let tail = more_operands qs ++ 59 ∷ more in
-    let below : q < 3 = three 0 q (omega arith) in
-    let shorter : length tail < length (44 ∷ 32 ∷ operand q ++ tail) = omega arith in
-    let left : length tail ≤ n - 1 = omega arith in
-    sym (qubits_behind-some n before (44 ∷ 32 ∷ operand q ++ tail) (record { value = q; rest = tail }) (next_qubit_at-operand q tail below) shorter enough)
-    ∙ qubits_read (n - 1) (before ++ q ∷ []) qs more (tail_below q qs three) left
-    ∙ ap (λ qs'. record { value = qs'; rest = 59 ∷ more }) (append_assoc before (q ∷ []) qs)
+tail-below : (q : ℕ) (qs : List ℕ) → All (λ x. x < 3) (q ∷ qs) → All (λ x. x < 3) qs
+tail-below q qs h = λ k d lt. h (suc k) d (omega arith)
 
-x_at-qubit : (q : ℕ) (bs rest : List ℕ) → Some (record { value = q; rest = rest }) ≡ qubit_at bs → ended (X q) rest ≡ x_at bs
-unfolding x_at
-x_at-qubit q bs rest h = rw (← h, x_at) refl
+-- qubits behind commas are read up to `;`
+qubits-text : (n : ℕ) (before qs : List ℕ) (ts : List Token) (ws : List (List ℕ)) → All (λ q. q < 3) qs → length ts ≤ n → texts_of ts ≡ more_operands qs ++ codes ";" ∷ ws
+    → (rest : List Token) × (qubits_behind n before ts ≡ record { value = before ++ qs; rest = rest }) × (texts_of rest ≡ codes ";" ∷ ws)
+qubits-text n before [] ts ws three enough h =
+    (ts, qubits_behind-none n before ts (no-next_qubit ts ws h) ∙ ap (λ qs. record { value = qs; rest = ts }) (sym (append-nil before)), h)
+qubits-text n before (q ∷ qs) ts ws three enough h =
+    let next = next_qubit-text ts q (more_operands qs ++ codes ";" ∷ ws) (three 0 q (omega arith)) h in
+    let fewer : length next.0 < length ts = shorter ts next.0 h next.2 in
+    let all = qubits-text (n - 1) (before ++ q ∷ []) qs next.0 ws (tail-below q qs three) (omega arith) next.2 in
+    (all.0, sym (qubits_behind-some n before ts (record { value = q; rest = next.0 }) (sym next.1) fewer enough) ∙ all.1 ∙ ap (λ qs'. record { value = qs'; rest = all.0 }) (append_assoc before (q ∷ []) qs), all.2)
+  where
+    length-texts : (xs : List Token) → length (texts_of xs) ≡ length xs
+    length-texts xs = length-map xs _
 
-cx_at-qubits : (a b : ℕ) (bs comma rest : List ℕ) → Some (record { value = a; rest = comma }) ≡ qubit_at bs → Some (record { value = b; rest = rest }) ≡ next_qubit_at comma → nat_eq a b ≡ false → ended (Cx a b) rest ≡ cx_at bs
-unfolding cx_at
-cx_at-qubits a b bs comma rest control target test = rw (← control, ← target, test, cx_at) refl
+    shorter : (ts rest : List Token) → texts_of ts ≡ more_operands (q ∷ qs) ++ codes ";" ∷ ws → texts_of rest ≡ more_operands qs ++ codes ";" ∷ ws → length rest < length ts
+    shorter ts rest h left = omega (arith, length-texts ts, length-texts rest, ap length h, ap length left)
 
-delay_at-time : (ticks q : ℕ) (inside operand rest : List ℕ) → Some (record { value = ticks; rest = 93 ∷ operand }) ≡ time_at inside → Some (record { value = q; rest = rest }) ≡ qubit_at operand → ended (Delay ticks q) rest ≡ delay_at (91 ∷ inside)
-unfolding delay_at
-delay_at-time ticks q inside operand rest time on = rw (← time, ← on, delay_at) refl
+statement-by : (ts : List Token) (w : List ℕ) (ws : List (List ℕ)) (s : Statement) (more : List (List ℕ)) → texts_of ts ≡ w ∷ ws
+    → ((others : List Token) → texts_of others ≡ ws → GoesOn (statement_by w others) s more) → GoesOn (statement_at ts) s more
+unfolding statement_at
+statement-by ts w ws s more h reads =
+    let f = first-token ts w ws h in
+    let found = reads f.1 f.4 in
+    (found.0, ap statement_at f.2 ∙ ap (λ word. statement_by word f.1) f.3 ∙ found.1, found.2)
 
-barrier_at-qubits : (q : ℕ) (qs bs others rest : List ℕ) → Some (record { value = q; rest = others }) ≡ qubit_at bs → qubits_behind (length others) (q ∷ []) others ≡ record { value = qs; rest = rest } → ended (Barrier qs) rest ≡ barrier_at bs
-unfolding barrier_at
-barrier_at-qubits q qs bs others rest first all = rw (← first, all, barrier_at) refl
-
-joined : (a b c d e : List ℕ) → (((a ++ b) ++ c) ++ d) ++ e ≡ a ++ (b ++ (c ++ (d ++ e)))
-joined a b c d e = simp append_assoc
-
--- the statement and its `;` are read, and the line feed is left
-pub statement_at-words_of : (s : Statement) (more : List ℕ) → IsWellFormed s → Some (record { value = s; rest = 10 ∷ more }) ≡ statement_at (words_of s ++ codes ";\n" ++ more)
-statement_at-words_of (X q) more formed =
-    let rest = 59 ∷ 10 ∷ more in
-    let operands = 32 ∷ operand q ++ rest in
-    x_at-qubit q operands rest (qubit_at-operand q rest formed) ∙ statement_at-x (120 ∷ operands) operands refl
-statement_at-words_of (Cx a b) more formed =
-    let rest = 59 ∷ 10 ∷ more in
-    let comma = 44 ∷ 32 ∷ operand b ++ rest in
-    let operands = 32 ∷ operand a ++ comma in
-    cx_at-qubits a b operands comma rest (qubit_at-operand a comma formed.0) (next_qubit_at-operand b rest formed.1) (unequal a b formed.2)
-    ∙ statement_at-cx (99 ∷ 120 ∷ operands) operands refl
-statement_at-words_of (Delay ticks q) more formed =
-    let rest = 59 ∷ 10 ∷ more in
-    let on = 32 ∷ operand q ++ rest in
-    let inside = decimal ticks ++ 100 ∷ 116 ∷ 93 ∷ on in
-    delay_at-time ticks q inside on rest (time_at-decimal ticks (93 ∷ on) formed.0) (qubit_at-operand q rest formed.1)
-    ∙ statement_at-delay (codes "delay[" ++ inside) (91 ∷ inside) refl
-    ∙ ap (λ bs. statement_at (codes "delay[" ++ bs)) (sym (joined (decimal ticks) (codes "dt] ") (operand q) (codes ";\n") more))
-statement_at-words_of (Barrier []) more formed = absurd (omega (arith, formed.0))
-statement_at-words_of (Barrier (q ∷ qs)) more formed =
-    let rest = 59 ∷ 10 ∷ more in
-    let others = more_operands qs ++ rest in
-    let below : q < 3 = formed.1 0 q (omega arith) in
-    barrier_at-qubits q (q ∷ qs) (32 ∷ operand q ++ others) others rest (qubit_at-operand q others below) (qubits_read (length others) (q ∷ []) qs (10 ∷ more) (tail_below q qs formed.1) (omega arith))
-    ∙ statement_at-barrier (codes "barrier" ++ (32 ∷ operand q ++ others)) (32 ∷ operand q ++ others) refl
-    ∙ ap (λ bs. statement_at (codes "barrier " ++ (operand q ++ bs))) (sym (append_assoc (more_operands qs) (codes ";\n") more))
+-- a statement is read, and what stands behind it is left
+pub statement-text : (s : Statement) (ts : List Token) (more : List (List ℕ)) → IsWellFormed s → texts_of ts ≡ words_of s ++ more → GoesOn (statement_at ts) s more
+unfolding x_at cx_at delay_at barrier_at
+statement-text (X q) ts more formed h = statement-by ts (codes "x") (operand q ∷ codes ";" ∷ more) (X q) more h (λ others is.
+    let on = qubit-text others q (codes ";" ∷ more) formed is in
+    let end = ended-text (X q) on.0 more on.2 in
+    (end.0, rw (on.1, x_at) end.1, end.2))
+statement-text (Cx a b) ts more formed h = statement-by ts (codes "cx") (operand a ∷ codes "," ∷ operand b ∷ codes ";" ∷ more) (Cx a b) more h (λ others is.
+    let control = qubit-text others a (codes "," ∷ operand b ∷ codes ";" ∷ more) formed.0 is in
+    let target = next_qubit-text control.0 b (codes ";" ∷ more) formed.1 control.2 in
+    let end = ended-text (Cx a b) target.0 more target.2 in
+    (end.0, rw (control.1, target.1, unequal a b formed.2, cx_at) end.1, end.2))
+statement-text (Delay ticks q) ts more formed h = statement-by ts (codes "delay") (codes "[" ∷ (decimal ticks ++ codes "dt") ∷ codes "]" ∷ operand q ∷ codes ";" ∷ more) (Delay ticks q) more h (λ others is.
+    let inside = behind-text others (codes "[") ((decimal ticks ++ codes "dt") ∷ codes "]" ∷ operand q ∷ codes ";" ∷ more) is in
+    let time = value-text time_of inside.0 (decimal ticks ++ codes "dt") (codes "]" ∷ operand q ∷ codes ";" ∷ more) ticks inside.2 (time_of-decimal ticks formed.0) in
+    let close = behind-text time.0 (codes "]") (operand q ∷ codes ";" ∷ more) time.2 in
+    let on = qubit-text close.0 q (codes ";" ∷ more) formed.1 close.2 in
+    let end = ended-text (Delay ticks q) on.0 more on.2 in
+    (end.0, rw (inside.1, time.1, close.1, on.1, delay_at) end.1, end.2))
+statement-text (Barrier []) ts more formed h = absurd (omega (arith, formed.0))
+statement-text (Barrier (q ∷ qs)) ts more formed h = statement-by ts (codes "barrier") (operand q ∷ more_operands qs ++ codes ";" ∷ more) (Barrier (q ∷ qs)) more (h ∙ joined) (λ others is.
+    let first = qubit-text others q (more_operands qs ++ codes ";" ∷ more) (formed.1 0 q (omega arith)) is in
+    let all = qubits-text (length first.0) (q ∷ []) qs first.0 more (tail-below q qs formed.1) (omega arith) first.2 in
+    let end = ended-text (Barrier (q ∷ qs)) all.0 more all.2 in
+    (end.0, rw (first.1, all.1, barrier_at) end.1, end.2))
+  where
+    joined : words_of (Barrier (q ∷ qs)) ++ more ≡ codes "barrier" ∷ operand q ∷ more_operands qs ++ codes ";" ∷ more
+    joined = ap (λ ws. codes "barrier" ∷ operand q ∷ ws) (append_assoc (more_operands qs) (codes ";" ∷ []) more)

@@ -1,6 +1,7 @@
 -- What a call of the program answers and writes, by its words and its file. This project's own.
 use Rattle.std.specs.Prelude.{◌≡◌, ◌⊎◌, ℕ, ◌<◌, ◌≤◌, slice_get, IsSomeAnd, List, [], ◌++◌, codes, Option, Some, None}
 use Rattle.qs_values.specs.declared.span.Span.{Span}
+use Rattle.qs_values.specs.declared.refusal.Refusal.{Refusal}
 use Rattle.outside.specs.declared.shelf.Taken.{Taken}
 use Rattle.outside.specs.declared.shelf.Taken.TheVariants.{Whole, Longer}
 use Rattle.outside.specs.Faults.{Rose}
@@ -15,12 +16,12 @@ use Rattle.box_schedule.specs.Placement.{length_of, longest}
 use Rattle.timeline_board.specs.Report.{IsReport}
 use Rattle.qasm_main.specs.declared.statement.Sentence.{Sentence}
 use Rattle.qasm_main.specs.declared.top.Plain.{Plain}
-use Rattle.qasm_main.specs.Source.{Reading, Built, NotBuilt, reading_of}
+use Rattle.qasm_main.specs.Reads.{IsRefused, IsSource}
 use Rattle.qasm_main.specs.BuiltIn.{mail, no_tape}
 use Rattle.qasm_main.specs.Compiled.{IsPlanOf, ops_of, tick_out_at}
 use Rattle.qasm_main.specs.Words.{file_of, usage}
 use Rattle.qasm_main.specs.Report.{counts_line}
-use Rattle.qasm_main.specs.Refused.{refusal_at, refusal_text, too_long}
+use Rattle.qasm_main.specs.Refused.{refusal_text, too_long}
 
 -- a status, and the whole text that goes with it
 pub record Told : Type 0 where
@@ -71,14 +72,25 @@ abbrev pub AnswersBuilt : List Sentence → SinkState → SinkState → Plain �
 AnswersBuilt sentences old new plain =
     ((length_of (ops_of sentences) ≤ longest) × Steps sentences old new plain) ⊎ TellsTickOut sentences old new plain
 
+-- A source of these statements is answered as they are.
+pub record AnswersSentences (most : ℕ) (bytes : List ℕ) (old new : SinkState) (plain : Plain) : Type 0 where
+  pub sentences : List Sentence
+  pub source : IsSource most bytes sentences
+  pub answers : AnswersBuilt sentences old new plain
+
+-- A source's refusal is told, and nothing was run.
+pub record AnswersRefused (most : ℕ) (bytes : List ℕ) (old new : SinkState) (plain : Plain) : Type 0 where
+  pub refusal : Refusal
+  pub refused : IsRefused most bytes refusal
+  pub told : TellsAlone old new (record { status = 1; text = refusal_text refusal }) plain
+
 -- what a source is answered
-abbrev pub AnswersSource : Reading → SinkState → SinkState → Plain → Type 0
-AnswersSource (Built sentences) old new plain = AnswersBuilt sentences old new plain
-AnswersSource (NotBuilt place) old new plain = TellsAlone old new (record { status = 1; text = refusal_text (refusal_at place) }) plain
+abbrev pub AnswersSource : ℕ → List ℕ → SinkState → SinkState → Plain → Type 0
+AnswersSource most bytes old new plain = AnswersSentences most bytes old new plain ⊎ AnswersRefused most bytes old new plain
 
 -- what a file is answered
 abbrev pub AnswersFile : ℕ → List ℕ → Taken → SinkState → SinkState → Plain → Type 0
-AnswersFile most name (Whole bytes) old new plain = AnswersSource (reading_of most bytes) old new plain
+AnswersFile most name (Whole bytes) old new plain = AnswersSource most bytes old new plain
 AnswersFile most name Longer old new plain = TellsAlone old new (record { status = 3; text = refusal_text (too_long name) }) plain
 
 -- The file couldn't be read: the shelf counted a fault, and keeps its name.

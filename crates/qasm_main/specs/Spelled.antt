@@ -1,41 +1,42 @@
--- Sources that are spelled from statements, a statement a line. This project's own.
-use Rattle.std.specs.Prelude.{◌≡◌, ℕ, ◌+◌, ◌≤◌, List, [], ◌∷◌, ◌++◌, All, codes, decimal, length}
+-- Tokens that spell statements. This project's own.
+use Rattle.std.specs.Prelude.{◌≡◌, ℕ, ◌+◌, ◌≤◌, List, [], ◌∷◌, ◌++◌, All, codes, decimal, length, map}
+use Rattle.qs_lexer.specs.declared.token.Token.{Token}
 use Rattle.qasm_main.specs.declared.statement.Statement.{Statement}
 use Rattle.qasm_main.specs.declared.statement.Statement.TheVariants.{X, Cx, Delay, Barrier}
 use Rattle.qasm_main.specs.declared.statement.Sentence.{Sentence}
 use Rattle.qasm_main.specs.Source.{Built, IsWellFormed, reading_of}
 
--- a qubit below 10
+-- the text of a qubit below 10
 abbrev pub operand : ℕ → List ℕ
 operand qubit = codes "$" ++ (48 + qubit) ∷ []
 
 -- qubits behind others, each behind a comma
-abbrev pub more_operands : List ℕ → List ℕ
+abbrev pub more_operands : List ℕ → List (List ℕ)
 more_operands [] = []
-more_operands (q ∷ qs) = codes ", " ++ operand q ++ more_operands qs
+more_operands (q ∷ qs) = codes "," ∷ operand q ∷ more_operands qs
 
 -- qubits with commas between
-abbrev pub operands : List ℕ → List ℕ
+abbrev pub operands : List ℕ → List (List ℕ)
 operands [] = []
-operands (q ∷ qs) = operand q ++ more_operands qs
+operands (q ∷ qs) = operand q ∷ more_operands qs
 
--- a statement without its `;`
-abbrev pub words_of : Statement → List ℕ
-words_of (X q) = codes "x " ++ operand q
-words_of (Cx a b) = codes "cx " ++ operand a ++ codes ", " ++ operand b
-words_of (Delay ticks q) = codes "delay[" ++ decimal ticks ++ codes "dt] " ++ operand q
-words_of (Barrier qs) = codes "barrier " ++ operands qs
+-- the texts of the tokens of a statement
+abbrev pub words_of : Statement → List (List ℕ)
+words_of (X q) = codes "x" ∷ operand q ∷ codes ";" ∷ []
+words_of (Cx a b) = codes "cx" ∷ operand a ∷ codes "," ∷ operand b ∷ codes ";" ∷ []
+words_of (Delay ticks q) = codes "delay" ∷ codes "[" ∷ (decimal ticks ++ codes "dt") ∷ codes "]" ∷ operand q ∷ codes ";" ∷ []
+words_of (Barrier qs) = codes "barrier" ∷ operands qs ++ codes ";" ∷ []
 
--- the lines of these statements, each with its `;` and its line feed
-abbrev pub spelled : List Statement → List ℕ
+-- those of statements, one after another
+abbrev pub spelled : List Statement → List (List ℕ)
 spelled [] = []
-spelled (s ∷ ss) = words_of s ++ codes ";\n" ++ spelled ss
+spelled (s ∷ ss) = words_of s ++ spelled ss
 
--- statements at the beginnings of lines, from this line on
-abbrev pub on_lines : ℕ → List Statement → List Sentence
-on_lines line [] = []
-on_lines line (s ∷ ss) = record { span = record { line = line; col = 1 }; statement = s } ∷ on_lines (line + 1) ss
+abbrev pub texts_of : List Token → List (List ℕ)
+texts_of tokens = map (λ t. t.text) tokens
 
--- a source that is spelled is read back, where it has no more statements than may be read
+-- tokens that spell statements are read back as these, where they are no more than may be read
 abbrev pub SpelledIsRead : Type 0
-SpelledIsRead = (most : ℕ) (statements : List Statement) → All IsWellFormed statements → length statements ≤ most → reading_of most (spelled statements) ≡ Built (on_lines 1 statements)
+SpelledIsRead =
+    (most : ℕ) (statements : List Statement) (tokens : List Token) → All IsWellFormed statements → length statements ≤ most → texts_of tokens ≡ spelled statements
+    → (sentences : List Sentence) × (reading_of most tokens ≡ Built sentences) × (map (λ s. s.statement) sentences ≡ statements)

@@ -5,7 +5,6 @@
 mod builtin;
 mod compile;
 mod laws;
-mod place;
 mod reader;
 mod run;
 mod split;

@@ -3,7 +3,7 @@ ghost use Rattle.outside.specs.Sink.{PutsText, SinkState};
 ghost use Rattle.plan_tree.specs.Sound.{IsSound};
 ghost use Rattle.timeline_board.specs.Refused.{name_of};
 ghost use Rattle.qasm_main.specs.declared.statement.Sentence.{Sentence as Said};
-ghost use Rattle.qasm_main.specs.Source.{most_statements, reading_of};
+ghost use Rattle.qasm_main.specs.Source.{most_statements};
 ghost use Rattle.qasm_main.specs.Statement.{AreKnown};
 ghost use Rattle.qasm_main.specs.Words.{file_of};
 ghost use Rattle.qasm_main.specs.Faults.{IsReadFault, IsWriteFault};
@@ -179,7 +179,7 @@ fn answer_sentences<K: Sink>(alloc: Global, sentences: &[Sentence], sink: &mut K
 fn answer_source<K: Sink>(alloc: Global, source: &[u8], sink: &mut K, most: u32) -> Plain
     requires short { length source.now ≤ LIMIT }
     requires few { most ≤ MOST }
-    ensures { WantsMemory (K.state sink.old) (K.state sink.new) result ⊎ AnswersSource (reading_of most source.now) (K.state sink.old) (K.state sink.new) result }
+    ensures { WantsMemory (K.state sink.old) (K.state sink.new) result ⊎ AnswersSource most source.now (K.state sink.old) (K.state sink.new) result }
 {
     match read(alloc, source, most) {
         Ok(sentences) => answer_sentences(alloc, sentences.as_slice(), sink),
