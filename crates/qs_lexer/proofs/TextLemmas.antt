@@ -1,5 +1,5 @@
 -- The characters of a text.
-use Rattle.std.proofs.Common.{◌≡◌, ℕ, ◌+◌, List, [], ◌∷◌, ◌++◌, take, length, subst, arith, ◌∙◌, ap, sym, refl, true, false, ◌==◌}
+use Rattle.std.proofs.Common.{◌≡◌, ℕ, List, [], ◌∷◌, ◌++◌, take, length, subst, arith, ◌∙◌, ap, sym, refl, true, false, ◌==◌}
 use lib.Utf8.{encodes}
 use Rattle.std.proofs.Math.Seq.{take-append_seam}
 use Rattle.std.proofs.lemmas.Bool.{eqb-true}

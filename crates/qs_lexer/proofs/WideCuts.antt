@@ -1,15 +1,11 @@
 -- A number that reaches 10^19 is past the limit of a fraction.
-use Rattle.std.proofs.Common.{◌≢◌, ℕ, ◌-◌, ◌%◌, ◌≤◌, ◌^◌, inl, refl, arith, zero, suc, pos}
-use Rattle.std.specs.Prelude.{int_div, Result, Ok, Err, MatchResult}
+use Rattle.std.proofs.Common.{◌≢◌, ℕ, ◌%◌, ◌≤◌, ◌^◌, inl, refl, arith, zero, suc, pos}
+use Rattle.std.specs.Prelude.{int_div}
 use Rattle.std.specs.Int.{IsGcd}
 use Rattle.std.proofs.Math.Nat.{mod-lt}
 use Rattle.std.proofs.lemmas.Nat.{le-div}
 use Rattle.std.proofs.lemmas.Int.{ints}
 use Rattle.std.proofs.lemmas.Nat.Gcd.{IsGcd-from_zero, IsGcd-from_mod}
-use Rattle.qs_values.specs.Number.{IsFrac, QuotientIs}
-use Rattle.qs_values.specs.declared.number.Frac.{Frac}
-use Rattle.qs_values.specs.declared.refusal.NumRefusal.{NumRefusal}
-use Rattle.qs_values.specs.declared.refusal.NumRefusal.TheVariants.{TooWide, PiTimesPi, ByZero, ByPi}
 use Rattle.qs_values.specs.Lowest.{IsWide}
 use Rattle.qs_values.proofs.LowestLemmas.{lowest_is, gcd_bounds}
 
@@ -33,11 +29,3 @@ wide_cut n h =
       lowest = lowest_is (pos n) (pos (10 ^ 17)) (pos found.0) found.1 some (omega (arith, ints));
       wide = inl (le-div (10 ^ 18) n found.0 bounds.0 (omega arith));
     }
-
--- the quotient of a whole number by 10^17 is a fraction or too wide
-pub cut_or_wide : (n : ℕ) (r : Result Frac NumRefusal) → QuotientIs (pos n) (pos (10 ^ 17)) r → MatchResult r (λ f. IsFrac (pos n) (pos (10 ^ 17)) f) (λ _. IsWide (pos n) (pos (10 ^ 17)))
-cut_or_wide n (Ok f) h = h.1
-cut_or_wide n (Err TooWide) h = h.1
-cut_or_wide n (Err ByZero) h = absurd (omega (arith, ints))
-cut_or_wide n (Err PiTimesPi) h = absurd h
-cut_or_wide n (Err ByPi) h = absurd h

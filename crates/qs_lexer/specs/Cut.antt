@@ -1,10 +1,10 @@
 -- A text cut into its longest gaps and lexemes, and the tokens of a cut. This project's own.
-use Rattle.std.specs.Prelude.{◌≡◌, ℕ, ◌+◌, ◌≤◌, List, [], ◌∷◌, ◌++◌, Bool, true, false, ◌||◌, not, if◌then◌else◌, nat_eq, length}
-use Rattle.std.specs.List.{list_all, fold, flat_map}
+use Rattle.std.specs.Prelude.{◌≡◌, ℕ, ◌+◌, ◌≤◌, List, [], ◌∷◌, ◌++◌, Bool, false, ◌||◌, not, if◌then◌else◌, nat_eq, length}
+use Rattle.std.specs.List.{list_all, fold}
 use Rattle.std.specs.Str.{IsUtf8, chars}
 use Rattle.qs_values.specs.declared.span.Span.{Span}
 use Rattle.qs_lexer.specs.declared.shape.Shape.{Shape}
-use Rattle.qs_lexer.specs.declared.shape.Shape.TheVariants.{Gap, OpenComment, OpenText, Word, Physical, Whole, Decimal, Time, Text, Sign}
+use Rattle.qs_lexer.specs.declared.shape.Shape.TheVariants.{Gap}
 use Rattle.qs_lexer.specs.declared.token.Token.{Token}
 use Rattle.qs_lexer.specs.Forms.{Form, is_in_line}
 use Rattle.qs_lexer.specs.Values.{KindIs}

@@ -1,14 +1,13 @@
 -- The tokens of a source, or its first fault. This project's own.
-use Rattle.std.specs.Prelude.{◌≡◌, ◌⊎◌, ℕ, ◌≤◌, List, [], ◌∷◌, ◌++◌, Bool, true, length, Result, Ok, Err, Option, Some, None}
+use Rattle.std.specs.Prelude.{◌≡◌, ◌⊎◌, ℕ, ◌≤◌, List, [], ◌++◌, Bool, true, length, Result, Ok, Err, Option, Some, None}
 use Rattle.std.specs.List.{flat_map}
 use Rattle.std.specs.Str.{IsUtf8, StartsWithNoChar, chars}
 use Rattle.qs_values.specs.declared.span.Span.{Span}
 use Rattle.qs_lexer.specs.declared.refusal.LexRefusal.{LexRefusal}
 use Rattle.qs_lexer.specs.declared.refusal.LexRefusal.TheVariants.{NotUtf8, BadChar, OpenComment as OpenCommentFault, OpenText as OpenTextFault, NumberTooWide, TooManyTokens, Memory}
 use Rattle.qs_lexer.specs.declared.shape.Shape.{Shape}
-use Rattle.qs_lexer.specs.declared.shape.Shape.TheVariants.{Gap, OpenComment, OpenText}
+use Rattle.qs_lexer.specs.declared.shape.Shape.TheVariants.{OpenComment, OpenText}
 use Rattle.qs_lexer.specs.declared.token.Token.{Token}
-use Rattle.qs_lexer.specs.Forms.{Form}
 use Rattle.qs_lexer.specs.Values.{IsLexeme, IsTooWide}
 use Rattle.qs_lexer.specs.Cut.{AreTokens, BeginsNothing, IsCut, IsLongest, Piece, first_behind_all, place_behind_all, start}
 

@@ -1,5 +1,5 @@
 -- The values of numbers, and the limits that they keep (OpenQASM 3.0, literals; limits and cut are this project's own).
-use Rattle.std.specs.Prelude.{◌≡◌, ℕ, pos, ◌+◌, ◌-◌, ◌*◌, ◌<◌, ◌≤◌, ◌^◌, ◌/◌, List, [], ◌∷◌, Bool, true, false, ◌||◌, not, if◌then◌else◌, nat_eq, nat_le, drop}
+use Rattle.std.specs.Prelude.{◌≡◌, ℕ, pos, ◌+◌, ◌-◌, ◌*◌, ◌<◌, ◌≤◌, ◌^◌, ◌/◌, List, [], ◌∷◌, Bool, ◌||◌, not, if◌then◌else◌, nat_eq, nat_le, drop}
 use Rattle.std.specs.List.{prefix_len, take_while, fold}
 use Rattle.qs_values.specs.Lowest.{IsWide}
 use Rattle.qs_values.specs.Number.{IsFrac}

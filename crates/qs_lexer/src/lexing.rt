@@ -42,8 +42,8 @@ fn kind_at(place: Span, shape: Shape, piece: &str) -> Result<Option<TokenKind>, 
         Shape::OpenComment => Err(LexRefusal::OpenComment { span: place }),
         Shape::OpenText => Err(LexRefusal::OpenText { span: place }),
         _ => match kind_of(shape, piece) {
-            Ok(kind) => Ok(Some(kind)),
-            Err(_) => Err(LexRefusal::NumberTooWide { span: place }),
+            Some(kind) => Ok(Some(kind)),
+            None => Err(LexRefusal::NumberTooWide { span: place }),
         },
     }
 }

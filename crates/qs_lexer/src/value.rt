@@ -1,4 +1,4 @@
-ghost use Rattle.std.specs.Prelude.{◌≡◌, ◌<◌, ◌≤◌, ◌-◌, ◌*◌, ◌/◌, ◌^◌, pos, drop, length, min, count_by, MatchResult, ◌&&◌, nat_lt, if◌then◌else◌};
+ghost use Rattle.std.specs.Prelude.{◌≡◌, ◌<◌, ◌≤◌, ◌-◌, ◌*◌, ◌/◌, ◌^◌, pos, drop, length, min, count_by, MatchOption, ◌&&◌, nat_lt, if◌then◌else◌};
 ghost use Rattle.std.specs.Str.{chars};
 ghost use Rattle.qs_values.specs.Lowest.{IsWide};
 ghost use Rattle.qs_lexer.specs.Forms.{is_decimal_digit};
@@ -6,7 +6,7 @@ ghost use Rattle.qs_lexer.specs.Values.{IsCutOf, IsLexeme, IsTooWide, KindIs, di
 
 use crate::shape::Shape;
 use crate::token::TokenKind;
-use qs_values::{Frac, NumRefusal};
+use qs_values::Frac;
 
 /// What a number times 10^17 stays below, where it may be within its limit.
 const CAP: u128 = 1_000_000_000_000_000_000_000_000_000_000_000_000;
@@ -206,37 +206,41 @@ fn scaled(text: &str) -> u128
     }
 }
 
-/// A number with a point, an exponent or a unit, cut to 17 decimals.
-fn cut(text: &str) -> Result<Frac, NumRefusal>
+/// A number with a point, an exponent or a unit, cut to 17 decimals; `None` where it is past its
+/// limit.
+fn cut(text: &str) -> Option<Frac>
     requires { length (chars text.now) ≤ 1048576 }
-    ensures { MatchResult result (λ f. IsCutOf (chars text.now) f) (λ refusal. IsWide (pos (scaled (chars text.now))) (pos (10 ^ 17))) }
+    ensures { MatchOption result (IsWide (pos (scaled (chars text.now))) (pos (10 ^ 17))) (λ f. IsCutOf (chars text.now) f) }
 {
     let value = scaled(text);
     if value == CAP {
-        return Err(NumRefusal::TooWide);
+        return None;
     }
-    Frac::of(value as i128, SCALE)
+    match Frac::of(value as i128, SCALE) {
+        Ok(number) => Some(number),
+        Err(_) => None,
+    }
 }
 
-/// What a token of this shape and text is; an error where it is a number past its limit.
-pub fn kind_of(shape: Shape, text: &str) -> Result<TokenKind, NumRefusal>
+/// What a token of this shape and text is; `None` where it is a number past its limit.
+pub fn kind_of(shape: Shape, text: &str) -> Option<TokenKind>
     requires lexeme { IsLexeme shape }
     requires short { length (chars text.now) ≤ 1048576 }
-    ensures { MatchResult result (λ kind. KindIs shape (chars text.now) kind) (λ refusal. IsTooWide shape (chars text.now)) }
+    ensures { MatchOption result (IsTooWide shape (chars text.now)) (λ kind. KindIs shape (chars text.now) kind) }
 {
     match shape {
         Shape::Physical => match u32::try_from(decimal_value(text)) {
-            Ok(number) => Ok(TokenKind::Physical(number)),
-            Err(_) => Err(NumRefusal::TooWide),
+            Ok(number) => Some(TokenKind::Physical(number)),
+            Err(_) => None,
         },
         Shape::Whole => match u64::try_from(whole_value(text)) {
-            Ok(number) => Ok(TokenKind::Whole(number)),
-            Err(_) => Err(NumRefusal::TooWide),
+            Ok(number) => Some(TokenKind::Whole(number)),
+            Err(_) => None,
         },
-        Shape::Decimal => Ok(TokenKind::Decimal(cut(text)?)),
-        Shape::Time(unit) => Ok(TokenKind::Time(cut(text)?, unit)),
-        Shape::Text => Ok(TokenKind::Text),
-        Shape::Sign => Ok(TokenKind::Sign),
-        _ => Ok(TokenKind::Word),
+        Shape::Decimal => Some(TokenKind::Decimal(cut(text)?)),
+        Shape::Time(unit) => Some(TokenKind::Time(cut(text)?, unit)),
+        Shape::Text => Some(TokenKind::Text),
+        Shape::Sign => Some(TokenKind::Sign),
+        _ => Some(TokenKind::Word),
     }
 }
