@@ -1,0 +1,9 @@
+pub mod WholeLemmas
+pub mod PowerLemmas
+pub mod ShiftLemmas
+pub mod SmallNumbers
+pub mod PiNames
+pub mod FoldingRows
+pub mod OneNumber
+pub mod OneMade
+pub mod OneOutcome

@@ -1,0 +1,72 @@
+-- Shifts of whole numbers.
+use Rattle.std.proofs.Common.{◌≡◌, ◌+◌, ◌*◌, ◌/◌, ◌%◌, ◌^◌, ◌<◌, ◌≤◌, ℕ, zero, suc, ℤ, pos, negsuc, ◌+ℤ◌, ◌*ℤ◌, ◌≤ℤ◌, ◌<ℤ◌, unsigned_abs, Option, Some, None, inl, inr, refl, sym, ◌∙◌, arith, FitsSigned, to_z, of_z}
+use mir.Syntax.{Width, w64, w128}
+use lib.Signed.{mag_shr, shr_z}
+use Rattle.std.proofs.Math.Nat.{pow-le-pow_right}
+use Rattle.std.proofs.lemmas.Nat.{mul-lt}
+use Rattle.std.proofs.lemmas.Int.{ints, to_z-of_z, unsigned_abs-mul}
+use Rattle.qs_values.proofs.NumberLemmas.{fits_below}
+use Rattle.qs_tree.specs.declared.constant.ConstVal.{ConstVal}
+use Rattle.qs_tree.specs.declared.constant.ConstVal.TheVariants.{Number, Truth, Bits}
+use Rattle.qs_const.specs.declared.made.Made.{Made}
+use Rattle.qs_const.specs.Operations.{ShiftMakes}
+use Rattle.qs_const.specs.Wholes.{OperandIs, CountIs}
+use Rattle.qs_const.proofs.WholeLemmas.{fits_i64, widened}
+
+-- a number that fits still does after a shift to the right
+shr_fits : (w : Width) (j : ℤ) (m : ℕ) → FitsSigned w j → FitsSigned w (shr_z j m)
+shr_fits w j m h = record { sfits = omega (arith, mag_shr j m, h.sfits) }
+
+-- the powers of 2 that are counted from 0 to 63
+pub power_below : (n : ℕ) → n ≤ 63 → 2 ^ n < 2 ^ 63 + 1
+power_below n h = let small : 2 ^ n ≤ 2 ^ 63 = pow-le-pow_right {n = 2} (omega arith) {i = n} {j = 63} h in omega arith
+
+pub power_is : (n : ℕ) → n ≤ 63 → to_z w128 (1 * 2 ^ n % 2 ^ 128) ≡ pos (2 ^ n)
+power_is n h = let small = power_below n h in omega (arith, ints)
+
+pub shifted_below : (j : ℤ) (n : ℕ) → unsigned_abs j < 10 ^ 18 → n ≤ 63 → unsigned_abs (j *ℤ pos (2 ^ n)) < 10 ^ 37
+shifted_below j n p h =
+    let below : unsigned_abs j * 2 ^ n < 10 ^ 18 * (2 ^ 63 + 1) = mul-lt (unsigned_abs j) (2 ^ n) (10 ^ 18) (2 ^ 63 + 1) p (power_below n h) in
+    rw (unsigned_abs-mul j (pos (2 ^ n))) (omega arith)
+
+-- what the code shifts to the left by a product
+pub shift_is : (j : ℤ) (n : ℕ) → unsigned_abs j < 10 ^ 18 → n ≤ 63 → to_z w128 (of_z w128 (to_z w64 (of_z w64 j))) *ℤ to_z w128 (1 * 2 ^ n % 2 ^ 128) ≡ j *ℤ pos (2 ^ n)
+shift_is j n p h =
+    let same : to_z w128 (of_z w128 (to_z w64 (of_z w64 j))) ≡ j = omega (arith, ints) in
+    rw (same, power_is n h) refl
+
+pub product_fits : (j : ℤ) (n : ℕ) → unsigned_abs j < 10 ^ 18 → n ≤ 63 → FitsSigned w128 (j *ℤ pos (2 ^ n))
+product_fits j n p h = fits_below (j *ℤ pos (2 ^ n)) (shifted_below j n p h)
+
+pub shift_coded : (j : ℤ) (n : ℕ) → unsigned_abs j < 10 ^ 18 → n ≤ 63
+    → to_z w128 (of_z w128 (to_z w128 (of_z w128 (to_z w64 (of_z w64 j))) *ℤ to_z w128 (1 * 2 ^ n % 2 ^ 128))) ≡ j *ℤ pos (2 ^ n)
+shift_coded j n p h = rw (shift_is j n p h) (to_z-of_z w128 (j *ℤ pos (2 ^ n)) (product_fits j n p h))
+
+-- -(a + 1) is below -q m, where q m is at most a
+below_up : (a q m : ℕ) → q * m ≤ a → negsuc a <ℤ ((negsuc q +ℤ pos 1) *ℤ pos m)
+below_up a zero m h = omega (arith, ints)
+below_up a (suc q) m h = let next : negsuc (suc q) +ℤ pos 1 ≡ negsuc q = omega (arith, ints) in rw next (omega (arith, ints))
+
+-- rounded down
+pub floor_is : (j : ℤ) (m : ℕ) → 0 < m → ((shr_z j m *ℤ pos m) ≤ℤ j) × (j <ℤ ((shr_z j m +ℤ pos 1) *ℤ pos m))
+floor_is (pos a) m h = (omega (arith, ints), omega (arith, ints))
+floor_is (negsuc a) m h = (omega (arith, ints), below_up a (a / m) m (omega arith))
+
+-- what the code shifts to the right
+pub shift_down_coded : (j : ℤ) (n : ℕ) → unsigned_abs j < 10 ^ 18 → to_z w128 (of_z w128 (to_z w64 (of_z w64 (shr_z (to_z w64 (of_z w64 j)) (2 ^ n))))) ≡ shr_z j (2 ^ n)
+shift_down_coded j n p =
+    let fits = fits_i64 j p in
+    rw (to_z-of_z w64 j fits, widened (of_z w64 (shr_z j (2 ^ n)))) (to_z-of_z w64 (shr_z j (2 ^ n)) (shr_fits w64 j (2 ^ n) fits))
+
+-- what a whole operand and a count make, where the code passes the count's number through its bits
+pub on_shift : (Shifts : ℤ → ℕ → Made → Type 0) (left right : Option ConstVal) (j k : ℤ) (n : ℕ) (made : Made)
+    → OperandIs left (Some j) → OperandIs right (Some k) → CountIs (to_z w64 (of_z w64 k)) (Some n) → Shifts j n made → ShiftMakes Shifts left right made
+on_shift Shifts (Some (Number x)) (Some (Number y)) j k n made p q r h =
+    let same : k ≡ pos n = sym (to_z-of_z w64 k (fits_i64 k q.1)) ∙ r.0 in
+    inr (inr (n, ((q.0.0, q.0.1, q.0.2 ∙ same), r.1), inl (j, p.0, h)))
+on_shift Shifts (Some (Truth b)) (Some (Number y)) j k n made p q r h = absurd cc
+on_shift Shifts (Some (Bits b)) (Some (Number y)) j k n made p q r h = absurd cc
+on_shift Shifts None (Some (Number y)) j k n made p q r h = absurd cc
+on_shift Shifts left (Some (Truth b)) j k n made p q r h = absurd cc
+on_shift Shifts left (Some (Bits b)) j k n made p q r h = absurd cc
+on_shift Shifts left None j k n made p q r h = absurd cc

@@ -1,0 +1,219 @@
+-- The operations on constants, case by case (OpenQASM 3.0, constant expressions, in this project's exact profile).
+use Rattle.std.specs.Prelude.{◌≡◌, ◌≢◌, ◌⊎◌, ℕ, ◌≤◌, ◌^◌, ℤ, pos, ◌+ℤ◌, ◌-ℤ◌, ◌*ℤ◌, ◌≤ℤ◌, ◌<ℤ◌, Bool, true, false, ◌&&◌, ◌||◌, not, int_rem, int_lt, int_le, Option, Some, None, Result, Ok, Err, zero, suc}
+use Rattle.std.specs.Int.{int_bit_and, int_bit_or, int_bit_xor}
+use mir.Syntax.{w64}
+use Rattle.qs_values.specs.Number.{IsZero, NumberIs, SumIs, DifferenceIs, ProductIs, RatioIs}
+use Rattle.qs_values.specs.declared.number.Num.{Num}
+use Rattle.qs_values.specs.declared.refusal.NumRefusal.{NumRefusal}
+use Rattle.qs_values.specs.declared.refusal.NumRefusal.TheVariants.{TooWide, PiTimesPi, ByZero, ByPi}
+use Rattle.qs_tree.specs.declared.constant.ConstVal.{ConstVal}
+use Rattle.qs_tree.specs.declared.constant.ConstVal.TheVariants.{Number, Truth}
+use Rattle.qs_tree.specs.declared.operator.UnOp.{UnOp}
+use Rattle.qs_tree.specs.declared.operator.UnOp.TheVariants.{Not, Neg, Invert}
+use Rattle.qs_tree.specs.declared.operator.BinOp.{BinOp}
+use Rattle.qs_tree.specs.declared.operator.BinOp.TheVariants.{Power, Mul, Div, Rem, Add, Sub, ShiftLeft, ShiftRight, Less, LessEqual, Greater, GreaterEqual, Equal, NotEqual, BitAnd, BitXor, BitOr, And, Or}
+use Rattle.qs_const.specs.declared.made.Cause.{Cause}
+use Rattle.qs_const.specs.declared.made.Cause.TheVariants as cause
+use Rattle.qs_const.specs.declared.made.Made.{Made}
+use Rattle.qs_const.specs.declared.made.Made.TheVariants.{Gives, Breaks, Nothing}
+
+-- the cause of a refusal among numbers
+abbrev pub cause_of : NumRefusal → Cause
+cause_of TooWide = cause.TooWide
+cause_of PiTimesPi = cause.PiTimesPi
+cause_of ByZero = cause.ByZero
+cause_of ByPi = cause.ByPi
+
+-- what a result among numbers makes
+abbrev pub number_made : Result Num NumRefusal → Made
+number_made (Ok x) = Gives (Number x)
+number_made (Err e) = Breaks (cause_of e)
+
+-- What is made is the number a + b pi with a = an/ad and b = bn/bd, or its refusal.
+abbrev pub MakesNumber : ℤ → ℤ → ℤ → ℤ → Made → Type 0
+MakesNumber an ad bn bd made = (r : Result Num NumRefusal) × NumberIs an ad bn bd r × (made ≡ number_made r)
+
+-- What is made is this whole number, or its refusal where it has 19 digits or more.
+abbrev pub MakesWhole : ℤ → Made → Type 0
+MakesWhole k made = MakesNumber k (pos 1) (pos 0) (pos 1) made
+
+-- A number is whole, and this; or it isn't.
+abbrev pub IsWhole : Num → ℤ → Type 0
+IsWhole x k = IsZero x.pi × (x.plain.den ≡ pos 1) × (x.plain.num ≡ k)
+
+abbrev pub IsNotWhole : Num → Type 0
+IsNotWhole x = (x.pi.num ≢ pos 0) ⊎ (x.plain.den ≢ pos 1)
+
+-- ---- signs before an operand
+
+-- what a sign makes of a constant
+abbrev pub SignMakes : UnOp → ConstVal → Made → Type 0
+SignMakes Neg (Number x) made = MakesNumber (pos 0 -ℤ x.plain.num) x.plain.den (pos 0 -ℤ x.pi.num) x.pi.den made
+SignMakes Invert (Number x) made = ((k : ℤ) × IsWhole x k × MakesWhole ((pos 0 -ℤ k) -ℤ pos 1) made) ⊎ (IsNotWhole x × (made ≡ Nothing))
+SignMakes Not (Truth b) made = made ≡ Gives (Truth (not b))
+SignMakes op v made = made ≡ Nothing
+
+-- what it makes of an operand, which may have no value
+abbrev pub SignIs : UnOp → Option ConstVal → Made → Type 0
+SignIs op None made = made ≡ Nothing
+SignIs op (Some v) made = SignMakes op v made
+
+-- ---- signs between two operands of one kind
+
+-- an operation on numbers
+abbrev pub OfNumbers : (Num → Num → Made → Type 0) → Option ConstVal → Option ConstVal → Made → Type 0
+OfNumbers Makes (Some (Number x)) (Some (Number y)) made = Makes x y made
+OfNumbers Makes left right made = made ≡ Nothing
+
+-- one that a relation of numbers gives
+abbrev pub ByResult : (Num → Num → Result Num NumRefusal → Type 0) → Num → Num → Made → Type 0
+ByResult Is x y made = (r : Result Num NumRefusal) × Is x y r × (made ≡ number_made r)
+
+-- an operation on whole numbers
+abbrev pub OnWholes : (ℤ → ℤ → Made → Type 0) → Num → Num → Made → Type 0
+OnWholes Makes x y made =
+    ((j : ℤ) × (k : ℤ) × IsWhole x j × IsWhole y k × Makes j k made)
+    ⊎ ((IsNotWhole x ⊎ IsNotWhole y) × (made ≡ Nothing))
+
+abbrev pub OfWholes : (ℤ → ℤ → Made → Type 0) → Option ConstVal → Option ConstVal → Made → Type 0
+OfWholes Makes left right made = OfNumbers (OnWholes Makes) left right made
+
+abbrev pub int_equal : ℤ → ℤ → Bool
+int_equal j k = int_le j k && int_le k j
+
+-- a comparison of whole numbers
+abbrev pub Compares : (ℤ → ℤ → Bool) → ℤ → ℤ → Made → Type 0
+Compares test j k made = made ≡ Gives (Truth (test j k))
+
+-- whether two truth values are alike
+abbrev pub alike : Bool → Bool → Bool
+alike true b = b
+alike false b = not b
+
+-- an operation on truth values
+abbrev pub OfTruths : (Bool → Bool → Bool) → Option ConstVal → Option ConstVal → Made → Type 0
+OfTruths op (Some (Truth a)) (Some (Truth b)) made = made ≡ Gives (Truth (op a b))
+OfTruths op left right made = made ≡ Nothing
+
+-- one on truth values or on whole numbers
+abbrev pub OfAlike : (Bool → Bool → Bool) → (ℤ → ℤ → Bool) → Option ConstVal → Option ConstVal → Made → Type 0
+OfAlike op test (Some (Truth a)) (Some (Truth b)) made = made ≡ Gives (Truth (op a b))
+OfAlike op test left right made = OfWholes (Compares test) left right made
+
+-- ---- quotients, remainders, shifts and powers, which may be refused whatever the left operand is
+
+abbrev pub IsNothing : Num → Type 0
+IsNothing y = IsZero y.plain × IsZero y.pi
+
+-- a divisor that no dividend of this kind has a quotient by: one with pi, and for an unknown dividend one with pi and a plain part
+abbrev pub HasNoQuotient : Option ConstVal → Num → Type 0
+HasNoQuotient None y = (y.pi.num ≢ pos 0) × (y.plain.num ≢ pos 0)
+HasNoQuotient (Some v) y = y.pi.num ≢ pos 0
+
+abbrev pub MayHaveQuotient : Option ConstVal → Num → Type 0
+MayHaveQuotient None y = IsZero y.pi ⊎ IsZero y.plain
+MayHaveQuotient (Some v) y = IsZero y.pi
+
+abbrev pub DividesOther : Option ConstVal → Num → Made → Type 0
+DividesOther left y made =
+    (IsNothing y × (made ≡ Breaks cause.ByZero))
+    ⊎ ((HasNoQuotient left y × (made ≡ Breaks cause.ByPi))
+    ⊎ (¬ (IsNothing y) × MayHaveQuotient left y × (made ≡ Nothing)))
+
+abbrev pub Divides : Option ConstVal → Num → Made → Type 0
+Divides (Some (Number x)) y made = ByResult RatioIs x y made
+Divides left y made = DividesOther left y made
+
+-- by a divisor
+abbrev pub QuotientMakes : Option ConstVal → Option ConstVal → Made → Type 0
+QuotientMakes left (Some (Number y)) made = Divides left y made
+QuotientMakes left right made = made ≡ Nothing
+
+-- the remainder has the dividend's sign
+abbrev pub Remains : ℤ → ℤ → Made → Type 0
+Remains j k made = MakesWhole (int_rem j k) made
+
+abbrev pub RemainderMakes : Option ConstVal → Option ConstVal → Made → Type 0
+RemainderMakes left (Some (Number y)) made =
+    (IsNothing y × (made ≡ Breaks cause.ByZero))
+    ⊎ (((y.pi.num ≢ pos 0) × (made ≡ Breaks cause.ByPi))
+    ⊎ (¬ (IsNothing y) × IsZero y.pi × OfWholes Remains left (Some (Number y)) made))
+RemainderMakes left right made = made ≡ Nothing
+
+-- what a shift by so many places makes of a whole number
+abbrev pub ShiftsUp : ℤ → ℕ → Made → Type 0
+ShiftsUp j n made = MakesWhole (j *ℤ pos (2 ^ n)) made
+
+abbrev pub ShiftsDown : ℤ → ℕ → Made → Type 0
+ShiftsDown j n made = (k : ℤ) × ((k *ℤ pos (2 ^ n)) ≤ℤ j) × (j <ℤ ((k +ℤ pos 1) *ℤ pos (2 ^ n))) × MakesWhole k made
+
+abbrev pub ShiftedIs : (ℤ → ℕ → Made → Type 0) → Option ConstVal → ℕ → Made → Type 0
+ShiftedIs Shifts (Some (Number x)) n made = ((j : ℤ) × IsWhole x j × Shifts j n made) ⊎ (IsNotWhole x × (made ≡ Nothing))
+ShiftedIs Shifts left n made = made ≡ Nothing
+
+-- a whole number from 0 to 63, which counts of shifts and exponents are
+abbrev pub IsCount : Num → ℕ → Type 0
+IsCount y n = IsWhole y (pos n) × (n ≤ 63)
+
+abbrev pub IsOutside : ℤ → Type 0
+IsOutside k = (k <ℤ pos 0) ⊎ (pos 63 <ℤ k)
+
+-- a shift: a count that is whole and isn't from 0 to 63 is refused, whatever is shifted
+abbrev pub ShiftMakes : (ℤ → ℕ → Made → Type 0) → Option ConstVal → Option ConstVal → Made → Type 0
+ShiftMakes Shifts left (Some (Number y)) made =
+    (IsNotWhole y × (made ≡ Nothing))
+    ⊎ (((k : ℤ) × IsWhole y k × IsOutside k × (made ≡ Breaks cause.TooWide))
+    ⊎ ((n : ℕ) × IsCount y n × ShiftedIs Shifts left n made))
+ShiftMakes Shifts left right made = made ≡ Nothing
+
+-- a product that goes on where there was none too wide before
+abbrev pub Times : Result Num NumRefusal → Num → Result Num NumRefusal → Type 0
+Times (Ok before) x r = ProductIs before x r
+Times (Err e) x r = r ≡ Err e
+
+-- x to the n-th power
+abbrev pub IsPower : Num → ℕ → Result Num NumRefusal → Type 0
+IsPower x zero r = NumberIs (pos 1) (pos 1) (pos 0) (pos 1) r
+IsPower x (suc n) r = (before : Result Num NumRefusal) × IsPower x n before × Times before x r
+
+abbrev pub RaisedIs : Option ConstVal → ℕ → Made → Type 0
+RaisedIs (Some (Number x)) n made = (r : Result Num NumRefusal) × IsPower x n r × (made ≡ number_made r)
+RaisedIs left n made = made ≡ Nothing
+
+-- a constant is no exponent
+abbrev pub IsNoExponent : ConstVal → Type 0
+IsNoExponent (Number y) = IsNotWhole y ⊎ ((k : ℤ) × IsWhole y k × IsOutside k)
+IsNoExponent v = Unit {0}
+
+abbrev pub IsExponent : ConstVal → ℕ → Type 0
+IsExponent (Number y) n = IsCount y n
+IsExponent v n = ⊥
+
+-- a power: what isn't a whole number from 0 to 63 is no exponent, whatever is raised to it
+abbrev pub PowerMakes : Option ConstVal → Option ConstVal → Made → Type 0
+PowerMakes left (Some v) made = (IsNoExponent v × (made ≡ Breaks cause.BadPower)) ⊎ ((n : ℕ) × IsExponent v n × RaisedIs left n made)
+PowerMakes left None made = made ≡ Nothing
+
+-- ---- all of them
+
+-- what a sign between two operands makes, where each of them may have no value
+abbrev pub PairMakes : BinOp → Option ConstVal → Option ConstVal → Made → Type 0
+PairMakes Power left right made = PowerMakes left right made
+PairMakes Mul left right made = OfNumbers (ByResult ProductIs) left right made
+PairMakes Div left right made = QuotientMakes left right made
+PairMakes Rem left right made = RemainderMakes left right made
+PairMakes Add left right made = OfNumbers (ByResult SumIs) left right made
+PairMakes Sub left right made = OfNumbers (ByResult DifferenceIs) left right made
+PairMakes ShiftLeft left right made = ShiftMakes ShiftsUp left right made
+PairMakes ShiftRight left right made = ShiftMakes ShiftsDown left right made
+PairMakes Less left right made = OfWholes (Compares int_lt) left right made
+PairMakes LessEqual left right made = OfWholes (Compares int_le) left right made
+PairMakes Greater left right made = OfWholes (Compares (λ j k. int_lt k j)) left right made
+PairMakes GreaterEqual left right made = OfWholes (Compares (λ j k. int_le k j)) left right made
+PairMakes Equal left right made = OfAlike alike int_equal left right made
+PairMakes NotEqual left right made = OfAlike (λ a b. not (alike a b)) (λ j k. not (int_equal j k)) left right made
+PairMakes BitAnd left right made = OfWholes (λ j k. MakesWhole (int_bit_and w64 j k)) left right made
+PairMakes BitXor left right made = OfWholes (λ j k. MakesWhole (int_bit_xor w64 j k)) left right made
+PairMakes BitOr left right made = OfWholes (λ j k. MakesWhole (int_bit_or w64 j k)) left right made
+PairMakes And left right made = OfTruths (λ a b. a && b) left right made
+PairMakes Or left right made = OfTruths (λ a b. a || b) left right made

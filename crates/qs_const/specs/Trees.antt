@@ -1,0 +1,56 @@
+-- What a constant expression is made of (OpenQASM 3.0, constant expressions). This project's own.
+use Rattle.std.specs.Prelude.{ℕ, List, Bool}
+use Rattle.qs_values.specs.declared.span.Span.{Span}
+use Rattle.qs_values.specs.declared.number.Frac.{Frac}
+use Rattle.qs_values.specs.declared.number.Num.{Num}
+use Rattle.qs_tree.specs.declared.operator.UnOp.{UnOp}
+use Rattle.qs_tree.specs.declared.operator.BinOp.{BinOp}
+use Rattle.qs_tree.specs.declared.expr.Expr.{Expr, Expr-F}
+use Rattle.qs_tree.specs.declared.expr.TypeExpr.{TypeExpr-F}
+use Rattle.qs_tree.specs.declared.expr.ExprKind.{ExprKind}
+use Rattle.qs_tree.specs.declared.expr.ExprKind.TheOpen.{ExprKind-F, Whole, Decimal, Time, Text, Truth, Name, Index, Physical, Call, Cast, Group, Unary, Binary, Number}
+use Rattle.qs_tree.specs.declared.expr.ExprKind.TheFolds.{fold-ExprKind}
+
+-- an expression by its parts, each at its first token where it can be refused there; a time, a physical qubit, a call and a cast are never constants
+pub data Tree : Type 0 where
+  Integer : (span : Span) → (value : ℕ) → Tree
+  Fraction : (value : Frac) → Tree
+  Given : (value : Num) → Tree
+  Quoted : (text : List ℕ) → Tree
+  Truthful : (value : Bool) → Tree
+  Named : (span : Span) → (name : List ℕ) → Tree
+  Indexed : (span : Span) → (name : List ℕ) → (index : Tree) → Tree
+  Enclosed : (inner : Tree) → Tree
+  Signed : (span : Span) → (op : UnOp) → (operand : Tree) → Tree
+  Joined : (span : Span) → (left : Tree) → (op : BinOp) → (right : Tree) → Tree
+  Other : Tree
+
+-- one layer of an expression at a place, with the trees of its parts in their places
+abbrev pub kind_step : ExprKind-F (Span → Tree) Tree (Unit {0}) → Span → Tree
+kind_step (Whole value) span = Integer span value
+kind_step (Decimal value) span = Fraction value
+kind_step (Time value unit) span = Other
+kind_step (Text text) span = Quoted text
+kind_step (Truth value) span = Truthful value
+kind_step (Name name) span = Named span name
+kind_step (Index name index) span = Indexed span name index.value
+kind_step (Physical number) span = Other
+kind_step (Call name args) span = Other
+kind_step (Cast type operand) span = Other
+kind_step (Group inner) span = Enclosed inner.value
+kind_step (Unary op operand) span = Signed span op operand.value
+kind_step (Binary left op right) span = Joined span left.value op right.value
+kind_step (Number value) span = Given value
+
+abbrev pub expr_step : Expr-F (Span → Tree) Tree (Unit {0}) → Tree
+expr_step e = e.kind e.span
+
+abbrev pub type_step : TypeExpr-F (Span → Tree) Tree (Unit {0}) → Unit {0}
+type_step t = tt
+
+-- the tree of an expression
+abbrev pub tree_at : ExprKind → Span → Tree
+tree_at = fold-ExprKind (Span → Tree) Tree (Unit {0}) kind_step expr_step type_step
+
+abbrev pub tree_of : Expr → Tree
+tree_of e = tree_at e.kind e.span

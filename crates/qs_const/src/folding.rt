@@ -1,0 +1,79 @@
+ghost use Rattle.std.specs.Prelude.{◌≡◌, IfOk};
+ghost use Rattle.qs_values.specs.Number.{IsZero};
+ghost use Rattle.qs_values.specs.declared.number.Num.{Num};
+ghost use Rattle.qs_tree.specs.declared.constant.ConstVal.TheVariants.{Number};
+ghost use Rattle.qs_const.specs.declared.folded.Folded.TheVariants.{Value};
+ghost use Rattle.qs_const.specs.Trees.{tree_of};
+ghost use Rattle.qs_const.specs.Folding.{FoldIs, Folds, IsFoldable};
+
+use crate::folded::{Folded, alone_folded, made_value, one_folded, two_folded};
+use crate::names::{index_made, name_made, text_made};
+use crate::pairs::pair_made;
+use crate::refusal::{ConstRefusal, refused_as};
+use crate::signs::sign_made;
+use crate::whole::whole_made;
+use qs_tree::{ConstVal, Consts, Expr, ExprKind};
+use qs_values::{Frac, Num};
+use std::alloc::{AllocError, Global};
+
+/// What a number without pi comes to.
+fn plain_folded(plain: Frac) -> Folded
+    ensures { (x : Num) × (x.plain ≡ plain) × IsZero x.pi × (result ≡ Value (Number x)) }
+{
+    Folded::Value(ConstVal::Number(Num {
+        plain,
+        pi: Frac::whole(0),
+    }))
+}
+
+/// What an expression comes to.
+pub fn folded(alloc: Global, e: &Expr, consts: &Consts) -> Result<Folded, AllocError>
+    ensures { IfOk result (λ f. Folds consts.now.list (tree_of e.now) f) }
+{
+    match &e.kind {
+        ExprKind::Whole(value) => Ok(alone_folded(e.span, whole_made(*value as i128))),
+        ExprKind::Decimal(value) => Ok(plain_folded(*value)),
+        ExprKind::Text(text) => Ok(made_value(text_made(alloc, text.as_str())?)),
+        ExprKind::Truth(value) => Ok(Folded::Value(ConstVal::Truth(*value))),
+        ExprKind::Name(name) => {
+            let made = name_made(alloc, consts, name.as_str())?;
+            Ok(alone_folded(e.span, made))
+        }
+        ExprKind::Index(name, index) => {
+            let index = folded(alloc, index, consts)?;
+            let made = index_made(consts, name.as_str());
+            Ok(one_folded(e.span, made, &index))
+        }
+        ExprKind::Group(inner) => folded(alloc, inner, consts),
+        ExprKind::Unary(op, operand) => {
+            let operand = folded(alloc, operand, consts)?;
+            let made = sign_made(*op, operand.value());
+            Ok(one_folded(e.span, made, &operand))
+        }
+        ExprKind::Binary(left, op, right) => {
+            let left = folded(alloc, left, consts)?;
+            let right = folded(alloc, right, consts)?;
+            let made = pair_made(*op, left.value(), right.value());
+            Ok(two_folded(e.span, made, &left, &right))
+        }
+        ExprKind::Number(value) => Ok(Folded::Value(ConstVal::Number(*value))),
+        _ => Ok(Folded::Neither),
+    }
+}
+
+/// The value of a constant expression, whose names have these constants.
+///
+/// # Errors
+/// The first refusal in the order of the text, at the first token of the part that is refused: of
+/// two at one place that with the lower code. `NotConst` stands at a name without a constant.
+/// `Memory` for want of memory.
+pub fn fold(alloc: Global, e: &Expr, consts: &Consts) -> Result<ConstVal, ConstRefusal>
+    requires { IsFoldable e.now consts.now }
+    ensures { FoldIs e.now consts.now result }
+{
+    match folded(alloc, e, consts)? {
+        Folded::Value(value) => Ok(value),
+        Folded::Refused(fault) => Err(refused_as(fault)),
+        Folded::Neither => unreachable!(),
+    }
+}

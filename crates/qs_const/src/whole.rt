@@ -1,0 +1,67 @@
+ghost use Rattle.std.specs.Prelude.{◌≡◌, ◌<◌, ◌^◌, unsigned_abs};
+ghost use Rattle.std.specs.Option.{option_copied};
+ghost use Rattle.qs_const.specs.Operations.{MakesWhole, number_made};
+ghost use Rattle.qs_const.specs.Wholes.{CountIs, OperandIs, WholeIs};
+
+use crate::made::{Cause, Made};
+use qs_tree::ConstVal;
+use qs_values::{Frac, Num, NumRefusal};
+
+/// The whole number that a number is, or `None` where it has pi or a denominator.
+pub fn whole(x: &Num) -> Option<i64>
+    ensures { WholeIs x.now result }
+{
+    if x.pi.num() == 0 && x.plain.den() == 1 {
+        Some(x.plain.num() as i64)
+    } else {
+        None
+    }
+}
+
+/// The whole number that an operand is, or `None` where it is no whole number.
+pub fn whole_operand(operand: Option<&ConstVal>) -> Option<i64>
+    ensures { OperandIs (option_copied operand.entry) result }
+{
+    match operand {
+        Some(ConstVal::Number(x)) => whole(x),
+        _ => None,
+    }
+}
+
+/// A whole number as a count from 0 to 63, or `None` where it is outside.
+pub fn count(k: i64) -> Option<u32>
+    ensures { CountIs k result }
+{
+    if 0 <= k && k <= 63 {
+        Some(k as u32)
+    } else {
+        None
+    }
+}
+
+/// What a whole number makes: the number, or `TooWide` where it reaches 10^18 in size.
+pub fn whole_made(k: i128) -> Made
+    requires { unsigned_abs k < 10 ^ 37 }
+    ensures { MakesWhole k result }
+{
+    match Frac::of(k, 1) {
+        Ok(plain) => Made::Gives(ConstVal::Number(Num {
+            plain,
+            pi: Frac::whole(0),
+        })),
+        Err(_) => Made::Breaks(Cause::TooWide),
+    }
+}
+
+/// What a result among numbers makes: the number, or the cause of its refusal.
+pub fn number_made(number: Result<Num, NumRefusal>) -> Made
+    ensures { result ≡ number_made number }
+{
+    match number {
+        Ok(x) => Made::Gives(ConstVal::Number(x)),
+        Err(NumRefusal::TooWide) => Made::Breaks(Cause::TooWide),
+        Err(NumRefusal::PiTimesPi) => Made::Breaks(Cause::PiTimesPi),
+        Err(NumRefusal::ByZero) => Made::Breaks(Cause::ByZero),
+        Err(NumRefusal::ByPi) => Made::Breaks(Cause::ByPi),
+    }
+}
