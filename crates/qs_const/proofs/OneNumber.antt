@@ -7,28 +7,11 @@ use Rattle.qs_values.specs.Lowest.{IsLowest, IsWide}
 use Rattle.qs_values.specs.Number.{DifferenceIs, IsFrac, IsZero, NumberIs, ProductIs, RatioIs, ScaledIs, SumIs}
 use Rattle.qs_values.specs.declared.number.Frac.{Frac}
 use Rattle.qs_values.specs.declared.number.Num.{Num}
-use Rattle.qs_values.specs.contracts.number.Frac.{the_ghost, the_propositions, the_values}
 use Rattle.qs_values.specs.declared.refusal.NumRefusal.{NumRefusal}
 use Rattle.qs_values.specs.declared.refusal.NumRefusal.TheVariants.{TooWide, PiTimesPi, ByZero, ByPi}
 use Rattle.qs_values.proofs.LowestLemmas.{abs_above}
 use Rattle.qs_values.proofs.OneQuotient.{answer_excludes_wide, same_lowest}
-
--- ---- fractions
-
-abbrev made : (v : the_values) → the_ghost v → Frac
-made v g = record { num = v.0; den = v.1.0; above = g.0; narrow = g.1.0; coprime = g.1.1.0 }
-
-made_once : (v w : the_values) → v ≡ w → (p : the_ghost v) (q : the_ghost w) → made v p ≡ made w q
-made_once v w same = subst (λ (x : the_values). (p : the_ghost v) (q : the_ghost x) → made v p ≡ made x q) same (λ p q. ap (made v) (the_propositions v p q))
-
--- what lies behind a fraction's parts is settled by them
-same_parts : (f g : Frac) → f.num ≡ g.num → f.den ≡ g.den → f ≡ g
-same_parts f g num den = made_once (f.num, (f.den, tt)) (g.num, (g.den, tt)) (λ i. (num i, (den i, tt))) (f.above, (f.narrow, (f.coprime, tt))) (g.above, (g.narrow, (g.coprime, tt)))
-
-frac_once : (n d : ℤ) (f g : Frac) → d ≢ pos 0 → IsFrac n d f → IsFrac n d g → f ≡ g
-frac_once n d f g nonzero is so =
-    let same = same_lowest n d f.num f.den g.num g.den nonzero is so in
-    same_parts f g same.0 same.1
+use Rattle.qs_lexer.proofs.FracOnce.{frac_once}
 
 pub same_number : (x y : Num) → x.plain ≡ y.plain → x.pi ≡ y.pi → x ≡ y
 same_number x y plain pi = λ i. record { plain = plain i; pi = pi i }

@@ -1,7 +1,6 @@
 -- What is a number is one to the reader.
 use Rattle.std.proofs.Common.{◌≡◌, ◌⊎◌, inl, inr, ℕ, List, [], ◌∷◌, ◌++◌, Bool, true, false, codes, eqb-true, refl, ap, sym, subst, ◌∙◌}
 use Rattle.std.specs.Prelude.{Option, Some}
-use Rattle.std.proofs.lemmas.List.Sums.{fold-append}
 use Rattle.qs_lexer.specs.declared.shape.Shape.TheVariants.{Whole, Decimal, Time}
 use Rattle.qs_lexer.specs.declared.state.Base.{Base}
 use Rattle.qs_lexer.specs.declared.state.Base.TheVariants.{Hexadecimal, Binary, Octal}
@@ -12,10 +11,8 @@ use Rattle.qs_lexer.specs.declared.token.Unit.TheVariants.{Dt, Ns, Us, Ms, S}
 use Rattle.qs_lexer.specs.Forms.{AreDigits, IsDecimal, IsExponent, IsPointed, IsTime, IsUnit, IsWhole, MayBeDigits, goes_on, is_decimal_digit}
 use Rattle.qs_lexer.specs.Scan.{is_digit_of, run, shape_before, step}
 use Rattle.qs_lexer.proofs.DigitLemmas.{decimal-cases, goes_on-cases}
+use Rattle.qs_lexer.proofs.Runs.{run-append}
 use Rattle.qs_lexer.proofs.NumberStates.{IsExponentLetter, IsLetterOf, IsMantissa, IsNumber}
-
-run-append : (s : State) (xs ys : List ℕ) → run s (xs ++ ys) ≡ run (run s xs) ys
-run-append s xs ys = fold-append step s xs ys
 
 -- ---- digits
 

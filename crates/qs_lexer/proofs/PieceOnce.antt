@@ -1,13 +1,9 @@
 -- The longest piece at a place is the only one, and what it holds is one thing.
-use Rattle.std.proofs.Common.{◌≡◌, ℕ, ℤ, pos, ◌^◌, List, [], ◌∷◌, ◌++◌, Bool, Some, None, length, take, sym, ap, ◌∙◌, subst, arith}
+use Rattle.std.proofs.Common.{◌≡◌, ℕ, pos, ◌^◌, List, [], ◌∷◌, ◌++◌, Bool, Some, None, length, take, sym, ap, ◌∙◌, arith}
 use Rattle.std.proofs.Math.Seq.{take-append_seam}
 use Rattle.std.proofs.lemmas.Int.{ints}
 use Rattle.std.proofs.lemmas.List.{append_cancel_left}
 use Rattle.std.specs.List.{slice_get}
-use Rattle.qs_values.specs.Number.{IsFrac}
-use Rattle.qs_values.specs.declared.number.Frac.{Frac}
-use Rattle.qs_values.specs.contracts.number.Frac.{the_ghost, the_propositions, the_values}
-use Rattle.qs_values.proofs.OneQuotient.{same_lowest}
 use Rattle.qs_lexer.specs.declared.shape.Shape.{Shape}
 use Rattle.qs_lexer.specs.declared.shape.Shape.TheVariants.{Gap, OpenComment, OpenText, Word, Physical, Whole, Decimal, Time, Text, Sign}
 use Rattle.qs_lexer.specs.declared.state.State.TheVariants.{Start}
@@ -16,6 +12,7 @@ use Rattle.qs_lexer.specs.declared.token.TokenKind.TheVariants as kind
 use Rattle.qs_lexer.specs.Forms.{Form}
 use Rattle.qs_lexer.specs.Cut.{IsLongest}
 use Rattle.qs_lexer.specs.Scan.{run, shape_before}
+use Rattle.qs_lexer.proofs.FracOnce.{frac_once}
 use Rattle.qs_lexer.specs.Values.{KindIs, scaled}
 use Rattle.qs_lexer.proofs.Complete.{complete}
 
@@ -41,18 +38,6 @@ no_piece first f (c ∷ cs) a whole form = absurd (cc)
 -- no piece is empty
 pub some_piece : {first : Bool} {f : Shape} {t a : List ℕ} → IsLongest first [] f t a → ⊥
 some_piece {first} {f} {t} {a} longest = no_piece first f t a longest.whole longest.form
-
-abbrev made : (v : the_values) → the_ghost v → Frac
-made v g = record { num = v.0; den = v.1.0; above = g.0; narrow = g.1.0; coprime = g.1.1.0 }
-
-made_once : (v w : the_values) → v ≡ w → (p : the_ghost v) (q : the_ghost w) → made v p ≡ made w q
-made_once v w same = subst (λ (x : the_values). (p : the_ghost v) (q : the_ghost x) → made v p ≡ made x q) same (λ p q. ap (made v) (the_propositions v p q))
-
--- what lies behind a fraction's numbers is settled by them
-frac_once : (n d : ℤ) (f g : Frac) → (d ≡ pos 0 → ⊥) → IsFrac n d f → IsFrac n d g → f ≡ g
-frac_once n d f g nonzero is so =
-    let same = same_lowest n d f.num f.den g.num g.den nonzero is so in
-    made_once (f.num, (f.den, tt)) (g.num, (g.den, tt)) (λ i. (same.0 i, (same.1 i, tt))) (f.above, (f.narrow, (f.coprime, tt))) (g.above, (g.narrow, (g.coprime, tt)))
 
 pub kind_once : (form : Shape) (t : List ℕ) (k l : TokenKind) → KindIs form t k → KindIs form t l → k ≡ l
 kind_once Gap t k l is so = absurd is

@@ -91,7 +91,8 @@ fn is_blank(c: char) -> bool
     c == ' ' || c == '\t' || c == '\n' || c == '\r'
 }
 
-fn is_decimal_digit(c: char) -> bool
+/// Whether a character is a decimal digit.
+pub fn is_decimal_digit(c: char) -> bool
     ensures { result ≡ is_decimal_digit c }
 {
     '0' <= c && c <= '9'

@@ -5,6 +5,7 @@ ghost use Rattle.qs_lexer.specs.Forms.{is_decimal_digit};
 ghost use Rattle.qs_lexer.specs.Values.{IsCutOf, IsLexeme, IsTooWide, KindIs, digit_value, is_digit, with_digit, value_of, based_value, whole_value, is_mantissa, mantissa, places, exponent, has_minus, scaled};
 
 use crate::shape::Shape;
+use crate::state::is_decimal_digit;
 use crate::token::TokenKind;
 use qs_values::Frac;
 
@@ -31,12 +32,6 @@ fn digit_value(c: char) -> u32
     } else {
         (c as u32).saturating_sub(87)
     }
-}
-
-fn is_decimal_digit(c: char) -> bool
-    ensures { result ≡ is_decimal_digit c }
-{
-    '0' <= c && c <= '9'
 }
 
 /// Whether a character is a digit of base 16, or of a base up to 10.
