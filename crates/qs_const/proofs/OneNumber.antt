@@ -1,5 +1,5 @@
 -- Numbers are unique: operations on numbers have one answer.
-use Rattle.std.proofs.Common.{◌≡◌, ◌≢◌, ◌⊎◌, ℕ, ◌*◌, ◌+◌, ◌<◌, zero, suc, refl, ap, sym, ◌∙◌, subst, arith, ℤ, pos, negsuc, ◌*ℤ◌, unsigned_abs, inl, inr, Result, Ok, Err}
+use Rattle.std.proofs.Common.{◌≡◌, ◌≢◌, ◌⊎◌, ℕ, ◌*◌, ◌+◌, ◌<◌, zero, suc, refl, ap, sym, ◌∙◌, arith, ℤ, pos, negsuc, ◌*ℤ◌, unsigned_abs, inl, inr, Result, Ok, Err}
 use Rattle.std.proofs.Math.Nat.{eq_of_mul-eq-mul_right}
 use Rattle.std.proofs.lemmas.Int.{ints, unsigned_abs-mul}
 use borrow.Author.Differences.{up, down, same_in, product_is}
@@ -10,7 +10,7 @@ use Rattle.qs_values.specs.declared.number.Num.{Num}
 use Rattle.qs_values.specs.declared.refusal.NumRefusal.{NumRefusal}
 use Rattle.qs_values.specs.declared.refusal.NumRefusal.TheVariants.{TooWide, PiTimesPi, ByZero, ByPi}
 use Rattle.qs_values.proofs.LowestLemmas.{abs_above}
-use Rattle.qs_values.proofs.OneQuotient.{answer_excludes_wide, same_lowest}
+use Rattle.qs_values.proofs.OneQuotient.{answer_excludes_wide}
 use Rattle.qs_lexer.proofs.FracOnce.{frac_once}
 
 pub same_number : (x y : Num) → x.plain ≡ y.plain → x.pi ≡ y.pi → x ≡ y
