@@ -26,26 +26,6 @@ pub fn less_equal_made(left: Option<&ConstVal>, right: Option<&ConstVal>) -> Mad
     }
 }
 
-/// Whether a whole number is greater than another; other operands make nothing.
-pub fn greater_made(left: Option<&ConstVal>, right: Option<&ConstVal>) -> Made
-    ensures { OfWholes (Compares (λ j k. int_lt k j)) (option_copied left.entry) (option_copied right.entry) result }
-{
-    match (whole_operand(left), whole_operand(right)) {
-        (Some(j), Some(k)) => Made::Gives(ConstVal::Truth(j > k)),
-        _ => Made::Nothing,
-    }
-}
-
-/// Whether a whole number is at least another; other operands make nothing.
-pub fn greater_equal_made(left: Option<&ConstVal>, right: Option<&ConstVal>) -> Made
-    ensures { OfWholes (Compares (λ j k. int_le k j)) (option_copied left.entry) (option_copied right.entry) result }
-{
-    match (whole_operand(left), whole_operand(right)) {
-        (Some(j), Some(k)) => Made::Gives(ConstVal::Truth(j >= k)),
-        _ => Made::Nothing,
-    }
-}
-
 /// Whether two whole numbers or two truth values are equal; other operands make nothing.
 pub fn equal_made(left: Option<&ConstVal>, right: Option<&ConstVal>) -> Made
     ensures { OfAlike alike int_equal (option_copied left.entry) (option_copied right.entry) result }

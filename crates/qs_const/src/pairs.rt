@@ -2,9 +2,7 @@ ghost use Rattle.std.specs.Option.{option_copied};
 ghost use Rattle.qs_const.specs.Operations.{PairMakes};
 
 use crate::bits::{bit_and_made, bit_or_made, bit_xor_made};
-use crate::compare::{
-    equal_made, greater_equal_made, greater_made, less_equal_made, less_made, not_equal_made,
-};
+use crate::compare::{equal_made, less_equal_made, less_made, not_equal_made};
 use crate::made::Made;
 use crate::powers::power_made;
 use crate::quotients::{quotient_made, remainder_made};
@@ -28,8 +26,8 @@ pub fn pair_made(op: BinOp, left: Option<&ConstVal>, right: Option<&ConstVal>) -
         BinOp::ShiftRight => shift_right_made(left, right),
         BinOp::Less => less_made(left, right),
         BinOp::LessEqual => less_equal_made(left, right),
-        BinOp::Greater => greater_made(left, right),
-        BinOp::GreaterEqual => greater_equal_made(left, right),
+        BinOp::Greater => less_made(right, left),
+        BinOp::GreaterEqual => less_equal_made(right, left),
         BinOp::Equal => equal_made(left, right),
         BinOp::NotEqual => not_equal_made(left, right),
         BinOp::BitAnd => bit_and_made(left, right),
