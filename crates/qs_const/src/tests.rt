@@ -188,43 +188,6 @@ pub fn read(alloc: Global, text: &str) -> Result<Expr, Fail> {
 
 // ---- a table
 
-/// What `fold` tells: the parts of `a/b + c/d * π`, a truth value, digits, or a refusal's code,
-/// line and column.
-#[derive(Clone, Copy, Debug, PartialEq)]
-pub enum Told<'a> {
-    Number(i128, i128, i128, i128),
-    Truth(bool),
-    Digits(&'a str),
-    Refused(u16, u32, u32),
-    Memory,
-}
-
-use Told::{Digits, Memory, Number, Refused, Truth};
-
-/// A refusal's code and place.
-fn refused(refusal: &ConstRefusal) -> Told<'static> {
-    let code = refusal.code();
-    match refusal {
-        ConstRefusal::TooWide { span }
-        | ConstRefusal::PiTimesPi { span }
-        | ConstRefusal::ByZero { span }
-        | ConstRefusal::ByPi { span }
-        | ConstRefusal::BadPower { span }
-        | ConstRefusal::NotConst { span } => Refused(code, span.line, span.col),
-        ConstRefusal::Memory => Memory,
-    }
-}
-
-/// What an answer tells.
-pub fn tell(answer: &Result<ConstVal, ConstRefusal>) -> Told<'_> {
-    match answer {
-        Ok(ConstVal::Number(x)) => Number(x.plain.num(), x.plain.den(), x.pi.num(), x.pi.den()),
-        Ok(ConstVal::Truth(value)) => Truth(*value),
-        Ok(ConstVal::Bits(digits)) => Digits(digits.as_str()),
-        Err(refusal) => refused(refusal),
-    }
-}
-
 /// The number `plain/2 + pi * π`.
 fn number(plain: i32, pi: i32) -> Result<ConstVal, Fail> {
     let plain = Frac::of(plain as i128, 2)?;
@@ -255,7 +218,7 @@ pub fn known(alloc: Global) -> Result<Consts, Fail> {
     })
 }
 
-/// Texts, each with what it comes to as `written` writes it.
+/// Texts, each with what `answer` writes of it.
 static ROWS: &str = r#"# whole numbers and their limits
 0 => 0/1; 999999999999999999 => 999999999999999999/1; 1000000000000000000 => 121 1:1
 18446744073709551615 => 121 1:1; -999999999999999999 => -999999999999999999/1
@@ -340,28 +303,45 @@ fn rows(alloc: Global) -> Result<Vec<(&'static str, &'static str)>, Fail> {
     Ok(rows)
 }
 
-/// A value's parts behind one another, or a refusal's code and place.
-fn written(alloc: Global, told: Option<Told<'_>>) -> Result<String, Fail> {
-    Ok(match told {
-        Some(Number(a, b, 0, 1)) => format!(in alloc; "{a}/{b}")?,
-        Some(Number(a, b, c, d)) => format!(in alloc; "{a}/{b} + {c}/{d} pi")?,
-        Some(Truth(value)) => format!(in alloc; "{value}")?,
-        Some(Digits(digits)) => format!(in alloc; "{digits}")?,
-        Some(Refused(code, line, col)) => format!(in alloc; "{code} {line}:{col}")?,
-        Some(Memory) => format!(in alloc; "memory")?,
-        None => format!(in alloc; "no rule")?,
+/// A number by the numerators and denominators of `a/b + c/d * π`.
+pub fn number_text(alloc: Global, [a, b, c, d]: [i128; 4]) -> Result<String, Fail> {
+    Ok(if c == 0 && d == 1 {
+        format!(in alloc; "{a}/{b}")?
+    } else {
+        format!(in alloc; "{a}/{b} + {c}/{d} pi")?
     })
 }
 
-/// What `fold` answers, where a rule types the expression.
-pub fn answer(
-    alloc: Global,
-    e: &Expr,
-    consts: &Consts,
-) -> Result<Option<Result<ConstVal, ConstRefusal>>, Fail> {
-    Ok(match folded(alloc, e, consts)? {
-        Folded::Value(_) | Folded::Refused(_) => Some(fold(alloc, e, consts)),
-        Folded::Neither => None,
+/// A refusal by its code and place.
+fn refusal_text(alloc: Global, refusal: &ConstRefusal) -> Result<String, Fail> {
+    let code = refusal.code();
+    Ok(match refusal {
+        ConstRefusal::TooWide { span }
+        | ConstRefusal::PiTimesPi { span }
+        | ConstRefusal::ByZero { span }
+        | ConstRefusal::ByPi { span }
+        | ConstRefusal::BadPower { span }
+        | ConstRefusal::NotConst { span } => format!(in alloc;
+            "{code} {}:{}",
+            span.line, span.col
+        )?,
+        ConstRefusal::Memory => format!(in alloc; "memory")?,
+    })
+}
+
+/// What `fold` answers: a value's parts, or a refusal; and where no rule types the expression, that.
+pub fn answer(alloc: Global, e: &Expr, consts: &Consts) -> Result<String, Fail> {
+    match folded(alloc, e, consts)? {
+        Folded::Value(_) | Folded::Refused(_) => {}
+        Folded::Neither => return Ok(format!(in alloc; "no rule")?),
+    }
+    Ok(match fold(alloc, e, consts) {
+        Ok(ConstVal::Number(Num { plain, pi })) => {
+            number_text(alloc, [plain.num(), plain.den(), pi.num(), pi.den()])?
+        }
+        Ok(ConstVal::Truth(value)) => format!(in alloc; "{value}")?,
+        Ok(ConstVal::Bits(digits)) => format!(in alloc; "{}", digits.as_str())?,
+        Err(refusal) => refusal_text(alloc, &refusal)?,
     })
 }
 
@@ -373,8 +353,7 @@ fn table(rt: HostRuntime) -> Result<(), Fail> {
     assert_eq!(rt; rows.len(), 213);
     for (text, want) in rows.as_slice() {
         let e = read(alloc, text)?;
-        let answer = answer(alloc, &e, &consts)?;
-        let told = written(alloc, answer.as_ref().map(tell))?;
+        let told = answer(alloc, &e, &consts)?;
         assert_eq!(rt; told.as_str(), *want, "{text}");
     }
     Ok(())
