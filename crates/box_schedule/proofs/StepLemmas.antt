@@ -12,31 +12,35 @@ use Rattle.box_schedule.proofs.ClockLemmas.{clock_of, clock_of-begun, start_afte
 pub record HasPlaced (done : List TOp) (clocks : List ℕ) (latest : ℕ) (starts : List ℕ) : Type 0 where
   pub starts_are : starts ≡ starts_of done
   pub latest_is : latest ≡ length_of done
-  pub clocks_are : (q : ℕ) → q < 32 → slice_index clocks q ≡ clock_of (begun_behind [] done) q
-  pub below : (q : ℕ) → q < 32 → slice_index clocks q ≤ length done * 2 ^ 32
+  pub clocks_are : (q : ℕ) → q < 256 → slice_index clocks q ≡ clock_of (begun_behind [] done) q
+  pub below : (q : ℕ) → q < 256 → slice_index clocks q ≤ length done * 2 ^ 32
 
 pub ticks_of-plain : (op : TOp) → IsPlain op → ticks_of op ≤ 2 ^ 32
 ticks_of-plain op plain = subst (λ z. natural z ≤ 2 ^ 32) (sym plain.short.1) plain.short.2
 
+-- Each of these qubits has a clock.
+abbrev pub HaveClocks : List ℕ → Type 0
+HaveClocks qubits = (i : ℕ) → i < length qubits → slice_index qubits i < 256
+
 -- Where the next operation begins, by the clocks.
-pub start_from_clocks : (done : List TOp) (op : TOp) (clocks : List ℕ) (latest : ℕ) (starts : List ℕ) → IsPlain op → HasPlaced done clocks latest starts
+pub start_from_clocks : (done : List TOp) (op : TOp) (clocks : List ℕ) (latest : ℕ) (starts : List ℕ) → HaveClocks (opened op).qubits → HasPlaced done clocks latest starts
     → greatest (slice_index clocks) (opened op).qubits ≡ start_after (begun_behind [] done) op
-start_from_clocks done op clocks latest starts plain placed =
-    greatest-same (slice_index clocks) (clock_of (begun_behind [] done)) (opened op).qubits (λ i h. placed.clocks_are _ (plain.qubits i h))
+start_from_clocks done op clocks latest starts known placed =
+    greatest-same (slice_index clocks) (clock_of (begun_behind [] done)) (opened op).qubits (λ i h. placed.clocks_are _ (known i h))
     ∙ sym (start_after-greatest (begun_behind [] done) op)
 
-pub start_from_clocks-le : (done : List TOp) (op : TOp) (clocks : List ℕ) (latest : ℕ) (starts : List ℕ) → IsPlain op → HasPlaced done clocks latest starts
+pub start_from_clocks-le : (done : List TOp) (op : TOp) (clocks : List ℕ) (latest : ℕ) (starts : List ℕ) → HaveClocks (opened op).qubits → HasPlaced done clocks latest starts
     → greatest (slice_index clocks) (opened op).qubits ≤ length done * 2 ^ 32
-start_from_clocks-le done op clocks latest starts plain placed =
-    greatest-le (slice_index clocks) (opened op).qubits (length done * 2 ^ 32) (λ i h. placed.below _ (plain.qubits i h))
+start_from_clocks-le done op clocks latest starts known placed =
+    greatest-le (slice_index clocks) (opened op).qubits (length done * 2 ^ 32) (λ i h. placed.below _ (known i h))
 
 HasPlaced-push : (done : List TOp) (op : TOp) (clocks moved : List ℕ) (latest : ℕ) (starts : List ℕ) (start end : ℕ)
-    → IsPlain op → HasPlaced done clocks latest starts
+    → IsPlain op → HaveClocks (opened op).qubits → HasPlaced done clocks latest starts
     → start ≡ greatest (slice_index clocks) (opened op).qubits → end ≡ start + ticks_of op
-    → ((q : ℕ) → q < 32 → slice_index moved q ≡ (if is_among (opened op).qubits q then end else slice_index clocks q))
+    → ((q : ℕ) → q < 256 → slice_index moved q ≡ (if is_among (opened op).qubits q then end else slice_index clocks q))
     → HasPlaced (done ++ op ∷ []) moved (max end latest) (starts ++ start ∷ [])
-HasPlaced-push done op clocks moved latest starts start end plain placed begins ends moves =
-    let begins_after : start ≡ start_after (begun_behind [] done) op = begins ∙ start_from_clocks done op clocks latest starts plain placed in
+HasPlaced-push done op clocks moved latest starts start end plain known placed begins ends moves =
+    let begins_after : start ≡ start_after (begun_behind [] done) op = begins ∙ start_from_clocks done op clocks latest starts known placed in
     record {
       starts_are = rw (starts_behind-push [] done op, placed.starts_are, begins_after) refl;
       latest_is = rw (length_of-push done op, placed.latest_is, ends, begins_after) refl;
@@ -44,7 +48,7 @@ HasPlaced-push done op clocks moved latest starts start end plain placed begins 
       below = λ q small. elim (cases_Bool (is_among (opened op).qubits q)) [
         | inl among ↦
             let own : slice_index moved q ≡ end = moves q small ∙ cond-true _ _ _ among in
-            omega (arith, start_from_clocks-le done op clocks latest starts plain placed, ticks_of-plain op plain, length-append done (op ∷ []))
+            omega (arith, start_from_clocks-le done op clocks latest starts known placed, ticks_of-plain op plain, length-append done (op ∷ []))
         | inr absent ↦
             let old : slice_index moved q ≡ slice_index clocks q = moves q small ∙ cond-false _ _ _ absent in
             omega (arith, placed.below q small, length-append done (op ∷ []))
@@ -56,23 +60,23 @@ plain_read : (ops : List TOp) (i : ℕ) (op : TOp) → All IsPlain ops → i < l
 plain_read ops i op plain within read = subst IsPlain (sym read) (plain i op within)
 
 pub HasPlaced-more : (ops : List TOp) (i : ℕ) (op : TOp) (qubits : List ℕ) (clocks moved : List ℕ) (latest : ℕ) (starts : List ℕ) (start end : ℕ)
-    → All IsPlain ops → i < length ops → op ≡ get_or ops i op → qubits ≡ (opened op).qubits
+    → All IsPlain ops → i < length ops → op ≡ get_or ops i op → qubits ≡ (opened op).qubits → HaveClocks qubits
     → HasPlaced (take i ops) clocks latest starts
     → start ≡ greatest (slice_index clocks) qubits → end ≡ start + ticks_of op
-    → ((q : ℕ) → q < 32 → slice_index moved q ≡ (if is_among qubits q then end else slice_index clocks q))
+    → ((q : ℕ) → q < 256 → slice_index moved q ≡ (if is_among qubits q then end else slice_index clocks q))
     → HasPlaced (take (i + 1) ops) moved (max end latest) (starts ++ start ∷ [])
-HasPlaced-more ops i op qubits clocks moved latest starts start end plain within read own placed begins ends moves =
+HasPlaced-more ops i op qubits clocks moved latest starts start end plain within read own known placed begins ends moves =
     let grown : take (i + 1) ops ≡ take i ops ++ op ∷ [] = take_more ops i op within ∙ ap (λ last. take i ops ++ last ∷ []) (sym read) in
-    rw grown (HasPlaced-push (take i ops) op clocks moved latest starts start end (plain_read ops i op plain within read) placed
+    rw grown (HasPlaced-push (take i ops) op clocks moved latest starts start end (plain_read ops i op plain within read) (rw own at known) placed
     (rw own at begins) ends (rw own at moves))
 
 -- No end passes what a `u64` holds.
 pub end_fits : (ops : List TOp) (i : ℕ) (op : TOp) (qubits : List ℕ) (clocks : List ℕ) (latest : ℕ) (starts : List ℕ) (start : ℕ)
-    → All IsPlain ops → length ops ≤ 2 ^ 24 → i < length ops → op ≡ get_or ops i op → qubits ≡ (opened op).qubits
+    → All IsPlain ops → length ops ≤ 2 ^ 24 → i < length ops → op ≡ get_or ops i op → qubits ≡ (opened op).qubits → HaveClocks qubits
     → HasPlaced (take i ops) clocks latest starts
     → start ≡ greatest (slice_index clocks) qubits → start + ticks_of op < 2 ^ 64
-end_fits ops i op qubits clocks latest starts start plain few within read own placed begins =
+end_fits ops i op qubits clocks latest starts start plain few within read own known placed begins =
     let plain_here : IsPlain op = plain_read ops i op plain within read in
-    let low : greatest (slice_index clocks) (opened op).qubits ≤ length (take i ops) * 2 ^ 32 = start_from_clocks-le (take i ops) op clocks latest starts plain_here placed in
+    let low : greatest (slice_index clocks) (opened op).qubits ≤ length (take i ops) * 2 ^ 32 = start_from_clocks-le (take i ops) op clocks latest starts (rw own at known) placed in
     let low_start : start ≤ length (take i ops) * 2 ^ 32 = rw (begins, own) low in
     omega (arith, ticks_of-plain op plain_here, length-take-le i ops)

@@ -1,5 +1,5 @@
 -- An operation of given fields is plain.
-use Rattle.std.proofs.Common.{◌≡◌, ℕ, ◌^◌, ◌<◌, ◌≤◌, [], length, ℤ, pos, negsuc, slice_index, refl, ap, ◌∙◌, arith}
+use Rattle.std.proofs.Common.{◌≡◌, ℕ, ◌^◌, ◌≤◌, [], ℤ, pos, negsuc, refl, ap, ◌∙◌, arith}
 use Rattle.std.proofs.lemmas.Int.{ints}
 use Rattle.std.specs.Prelude.{None, ◌≤ℤ◌}
 use Rattle.box_schedule.specs.declared.block.TOp.{TOp}
@@ -12,13 +12,12 @@ as_natural : (z : ℤ) → pos 0 ≤ℤ z → z ≤ℤ pos (2 ^ 32) → (n : ℕ
 as_natural (pos n) low high = (n, refl, omega (arith, ints))
 as_natural (negsuc n) low high = absurd (omega (arith, ints))
 
-pub plain_of : (fields : TOp-F TOp) (z : ℤ) → ((i : ℕ) → i < length fields.qubits → slice_index fields.qubits i < 32) → fields.length.parts ≡ []
+pub plain_of : (fields : TOp-F TOp) (z : ℤ) → fields.length.parts ≡ []
     → fields.length.ticks ≡ z → pos 0 ≤ℤ z → z ≤ℤ pos (2 ^ 32) → fields.inner ≡ None → fields.fixed ≡ None → IsPlain (roll-TOp fields)
-plain_of fields z known parts ticks low high inner fixed =
+plain_of fields z parts ticks low high inner fixed =
     let rolled : opened (roll-TOp fields) ≡ fields = out-roll-TOp fields in
     let has = as_natural z low high in
     record {
-      qubits = rw rolled known;
       parts = ap (λ (op : TOp-F TOp). op.length.parts) rolled ∙ parts;
       short = (has.0, ap (λ (op : TOp-F TOp). op.length.ticks) rolled ∙ ticks ∙ has.1, has.2);
       inner = ap (λ (op : TOp-F TOp). op.inner) rolled ∙ inner;

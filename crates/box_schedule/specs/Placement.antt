@@ -79,9 +79,8 @@ Places ops (Err Memory) = Unit {0}
 abbrev pub IsEarliest : List TOp → List ℕ → Type 0
 IsEarliest ops starts = IsAdmissible ops starts × ((others : List ℕ) → IsAdmissible ops others → (i : ℕ) → slice_index starts i ≤ slice_index others i)
 
--- An operation of constant length outside boxes: its qubits are below 32, and it lasts from 0 to 2^32 ticks.
+-- An operation of constant length outside boxes, which lasts from 0 to 2^32 ticks.
 pub record IsPlain (op : TOp) : Type 0 where
-  pub qubits : (i : ℕ) → i < length (opened op).qubits → slice_index (opened op).qubits i < 32
   pub parts : (opened op).length.parts ≡ []
   pub short : (n : ℕ) × ((opened op).length.ticks ≡ pos n) × (n ≤ 2 ^ 32)
   pub inner : (opened op).inner ≡ None

@@ -8,8 +8,8 @@ use crate::refusal::BoxRefusal;
 use qs_values::List;
 use std::alloc::{AllocError, Global};
 
-/// How many qubits have a clock.
-const QUBITS: usize = 32;
+/// How many qubits have a clock: as many as a `u8` tells apart.
+const QUBITS: usize = 256;
 
 /// How many ticks a block lasts at most.
 const LONGEST: u64 = 1 << 40;
@@ -64,10 +64,10 @@ fn ticks(op: &TOp) -> u64
     op.length.ticks as u64
 }
 
-/// The greatest clock of these qubits, 0 without a qubit.
+/// The greatest clock of these qubits, 0 without a qubit. Each qubit has a clock.
 fn begin(clocks: &[u64; QUBITS], qubits: &[u8]) -> u64
-    requires { (i : ℕ) → i < length qubits.now → slice_index qubits.now i < QUBITS }
-    ensures { result ≡ greatest (slice_index clocks.now) qubits.now }
+    ensures start { result ≡ greatest (slice_index clocks.now) qubits.now }
+    ensures known { (i : ℕ) → i < length qubits.now → slice_index qubits.now i < QUBITS }
 {
     let mut start = 0;
     for qubit in qubits {
@@ -78,7 +78,6 @@ fn begin(clocks: &[u64; QUBITS], qubits: &[u8]) -> u64
 
 /// Moves the clocks of these qubits to the tick `end`.
 fn move_clocks(clocks: &mut [u64; QUBITS], qubits: &[u8], end: u64)
-    requires { (i : ℕ) → i < length qubits.now → slice_index qubits.now i < QUBITS }
     ensures { (q : ℕ) → q < QUBITS → slice_index clocks.new q ≡ (if list_any (nat_eq q) qubits.now then end else slice_index clocks.old q) }
 {
     for qubit in qubits {

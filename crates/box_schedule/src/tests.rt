@@ -29,7 +29,7 @@ const DOWN: &[u8] = &[
 
 const LONG: i64 = 1 << 32;
 
-const CASES: [Case; 17] = [
+const CASES: [Case; 18] = [
     Case {
         ops: &[],
         starts: &[],
@@ -93,6 +93,12 @@ const CASES: [Case; 17] = [
         starts: &[0, 9, 10, 11, 12, 13, 14],
         length: Some(15),
     },
+    // the last qubit that has a number
+    Case {
+        ops: &[(1, &[255], 4), (1, &[254], 2), (1, &[0, 255], 3), (1, &[0], 1), (1, &[254], 1)],
+        starts: &[0, 0, 4, 7, 2],
+        length: Some(8),
+    },
     // no ticks, no qubits, and a qubit twice
     Case {
         ops: &[(1, &[0], 0), (1, &[0], 0)],
@@ -146,7 +152,7 @@ fn make_op(
 ) -> Result<TOp, AllocError>
     ensures { IfOk result IsPlain }
 {
-    assert!(rt; qubits.iter().all(|q| *q < 32) && 0 <= ticks && ticks <= LONG);
+    assert!(rt; 0 <= ticks && ticks <= LONG);
     Ok(TOp {
         span: Span { line, col: 1 },
         qubits: List::from_vec(Vec::from_slice(alloc, qubits)?),

@@ -59,30 +59,21 @@ span-op span (Barrier qubits) = span-timed span qubits 0 true
 
 -- ---- what their placement takes
 
-plain_timed : (span : Span) (qubits : List ℕ) (ticks : ℕ) (barrier : Bool) → All (λ q. q < 3) qubits → ticks ≤ 2 ^ 32 → IsPlain (timed span qubits ticks barrier)
-plain_timed span qubits ticks barrier known short =
-    let has_qubits = qubits-timed span qubits ticks barrier in
+plain_timed : (span : Span) (qubits : List ℕ) (ticks : ℕ) (barrier : Bool) → ticks ≤ 2 ^ 32 → IsPlain (timed span qubits ticks barrier)
+plain_timed span qubits ticks barrier short =
     let has_ticks = ticks-timed span qubits ticks barrier in
     record {
-      qubits = rw has_qubits (λ i h. omega (arith, known i 0 h));
       parts = ap (λ (op : TOp-F TOp). op.length.parts) (out-roll-TOp _);
       short = (ticks, has_ticks, short);
       inner = ap (λ (op : TOp-F TOp). op.inner) (out-roll-TOp _);
       fixed = ap (λ (op : TOp-F TOp). op.fixed) (out-roll-TOp _);
     }
 
--- the qubits of one operation
-abbrev AreQubits : List ℕ → Type 0
-AreQubits qubits = All (λ q. q < 3) qubits
-
-one_qubit : (q : ℕ) → q < 3 → AreQubits (q ∷ [])
-one_qubit q known = All-cons (λ p. p < 3) q [] known (All-nil (λ p. p < 3))
-
 plain_by : (span : Span) (x : Statement) → IsKnown x → IsPlain (op_by span x)
-plain_by span (X q) known = plain_timed span (q ∷ []) 4 false (one_qubit q known) (lit≤ tt)
-plain_by span (Cx a b) known = plain_timed span (a ∷ b ∷ []) 8 false (All-cons (λ p. p < 3) a (b ∷ []) known.0 (one_qubit b known.1)) (lit≤ tt)
-plain_by span (Delay ticks q) known = plain_timed span (q ∷ []) ticks false (one_qubit q known.1) known.0
-plain_by span (Barrier qubits) known = plain_timed span qubits 0 true known (lit≤ tt)
+plain_by span (X q) known = plain_timed span (q ∷ []) 4 false (lit≤ tt)
+plain_by span (Cx a b) known = plain_timed span (a ∷ b ∷ []) 8 false (lit≤ tt)
+plain_by span (Delay ticks q) known = plain_timed span (q ∷ []) ticks false known.0
+plain_by span (Barrier qubits) known = plain_timed span qubits 0 true (lit≤ tt)
 
 -- What is known of the statements is what the placement takes.
 pub plain_ops : (sentences : List Sentence) → All AreKnown sentences → All IsPlain (ops_of sentences)

@@ -22,7 +22,7 @@ use Rattle.timeline_board.proofs.ReportLemmas.{planned-all, report-is-run}
 use Rattle.qasm_main.specs.declared.statement.Statement.{Statement}
 use Rattle.qasm_main.specs.declared.statement.Statement.TheVariants.{X, Cx, Delay, Barrier}
 use Rattle.qasm_main.specs.declared.statement.Sentence.{Sentence}
-use Rattle.qasm_main.specs.BuiltIn.{no_tape}
+use Rattle.qasm_main.specs.Ran.{no_tape}
 use Rattle.qasm_main.specs.Compiled.{IsBodyBy, IsCompiled, is_left_out, pulse_at, pulses_by, pulses_from, pulses_of, w4, w8}
 use Rattle.qasm_main.specs.Named.{DeedHas, StmtHas}
 use Rattle.qasm_main.proofs.NamedLemmas.{logs-named}

@@ -15,18 +15,18 @@ use Rattle.plan_tree.specs.Sound.{HasVars, IsSound, IsSoundBlock, IsSoundDeed, I
 use Rattle.plan_tree.proofs.DeedLemmas.{apart-plays}
 use Rattle.box_schedule.specs.Placement.{IsAdmissible, length_of, longest, starts_of}
 use Rattle.qasm_main.specs.declared.statement.Sentence.{Sentence}
-use Rattle.qasm_main.specs.BuiltIn.{frames, owner}
+use Rattle.qs_machine.specs.BuiltIn.{built_in}
 use Rattle.qasm_main.specs.Statement.{AreKnown}
-use Rattle.qasm_main.specs.Compiled.{IsBlockOf, IsBodyBy, IsPlanOf, is_left_out, ops_of, pulses_of}
+use Rattle.qasm_main.specs.Compiled.{IsBlockOf, IsBodyBy, IsPlanOf, is_left_out, ops_of, owners_of, pulses_of}
 use Rattle.qasm_main.proofs.PulseLemmas.{IsQubitPulse, known_pulses, length-pulses_from, begin_before_end, pulses_apart, same_start_flips}
 
-frame_of : (port : ℕ) → port < 3 → IsSomeAnd (slice_get frames port) (λ s. s.port ≡ port)
+frame_of : (port : ℕ) → port < 3 → IsSomeAnd (slice_get built_in.frames port) (λ s. s.port ≡ port)
 frame_of zero h = refl
 frame_of (suc zero) h = refl
 frame_of (suc (suc zero)) h = refl
 frame_of (suc (suc (suc n))) h = absurd (omega arith)
 
-sound_event : (plan : Plan) (ticks : ℕ) (e : Event) → plan.frames ≡ frames → plan.owner ≡ owner → IsQubitPulse e → e.offset < ticks → IsSoundEvent plan ticks e
+sound_event : (plan : Plan) (ticks : ℕ) (e : Event) → plan.frames ≡ built_in.frames → plan.owner ≡ owners_of built_in.ports → IsQubitPulse e → e.offset < ticks → IsSoundEvent plan ticks e
 sound_event plan ticks e framed owned known below =
     let HasFrame : List FrameStart → Type 0 = λ all. IsSomeAnd (slice_get all e.port) (λ s. s.port ≡ e.port) in
     let IsSoundAct : Deed → Type 0 = λ act. IsSoundDeed plan ticks e.offset e.port act in
@@ -43,7 +43,7 @@ pub record ArePlanned (sentences : List Sentence) : Type 0 where
   pub short : length_of (ops_of sentences) ≤ longest
   pub admissible : IsAdmissible (ops_of sentences) (starts_of (ops_of sentences))
 
-sound_block : (sentences : List Sentence) (plan : Plan) (b : Block-) → ArePlanned sentences → plan.frames ≡ frames → plan.owner ≡ owner
+sound_block : (sentences : List Sentence) (plan : Plan) (b : Block-) → ArePlanned sentences → plan.frames ≡ built_in.frames → plan.owner ≡ owners_of built_in.ports
     → IsBlockOf sentences b → IsSoundBlock plan b
 sound_block sentences plan b planned framed owned block =
     let starts : List ℕ = starts_of (ops_of sentences) in
@@ -58,7 +58,7 @@ sound_block sentences plan b planned framed owned block =
           (pulses_apart sentences starts planned.known planned.admissible.apart));
     }
 
-sound_body : (sentences : List Sentence) (plan : Plan) (body : List PlanStmt) (left_out : Bool) → ArePlanned sentences → plan.frames ≡ frames → plan.owner ≡ owner
+sound_body : (sentences : List Sentence) (plan : Plan) (body : List PlanStmt) (left_out : Bool) → ArePlanned sentences → plan.frames ≡ built_in.frames → plan.owner ≡ owners_of built_in.ports
     → IsBodyBy left_out sentences body → All (IsSoundStmt plan) body × (weight_of body ≤ 1048576)
 sound_body sentences plan body true planned framed owned is =
     subst (λ (all : List PlanStmt). All (IsSoundStmt plan) all × (weight_of all ≤ 1048576)) (sym is) (All-nil (IsSoundStmt plan), omega arith)
@@ -69,13 +69,13 @@ sound_body sentences plan body false planned framed owned (b, is, block) =
       omega (arith, moved, planned.few, length-pulses_from sentences (starts_of (ops_of sentences))),
     )
 
-owners_known : All (λ k. (0 < k) × (k < 5)) owner
+owners_known : All (λ k. (0 < k) × (k < 5)) (owners_of built_in.ports)
 owners_known =
-    All-from_recursion (λ k. (0 < k) × (k < 5)) owner
+    All-from_recursion (λ k. (0 < k) × (k < 5)) (owners_of built_in.ports)
     ((lit< tt, lit< tt), ((lit< tt, lit< tt), ((lit< tt, lit< tt), ((lit< tt, lit< tt), ((lit< tt, lit< tt), ((lit< tt, lit< tt), tt))))))
 
-ports_known : All (λ f. f.port < 6) frames
-ports_known = All-from_recursion (λ f. f.port < 6) frames (lit< tt, (lit< tt, (lit< tt, (lit< tt, (lit< tt, (lit< tt, tt))))))
+ports_known : All (λ f. f.port < 6) built_in.frames
+ports_known = All-from_recursion (λ f. f.port < 6) built_in.frames (lit< tt, (lit< tt, (lit< tt, (lit< tt, (lit< tt, (lit< tt, tt))))))
 
 pub sound_plan : (sentences : List Sentence) (plan : Plan) → ArePlanned sentences → IsPlanOf sentences plan → IsSound plan
 sound_plan sentences plan planned is =

@@ -17,7 +17,7 @@ use Rattle.timeline_board.specs.Report.{IsReport}
 use Rattle.qasm_main.specs.declared.statement.Sentence.{Sentence}
 use Rattle.qasm_main.specs.declared.top.Plain.{Plain}
 use Rattle.qasm_main.specs.Reads.{IsRefused, IsSource}
-use Rattle.qasm_main.specs.BuiltIn.{mail, no_tape}
+use Rattle.qasm_main.specs.Ran.{no_tape}
 use Rattle.qasm_main.specs.Compiled.{IsPlanOf, ops_of, tick_out_at}
 use Rattle.qasm_main.specs.Words.{file_of, usage}
 use Rattle.qasm_main.specs.Report.{counts_line}
@@ -55,7 +55,7 @@ pub record Steps (sentences : List Sentence) (old new : SinkState) (plain : Plai
   pub reached : IsReached core
   pub stepped : ℕ
   pub waited : ℕ
-  pub runs : Runs [] (start_core plan no_tape mail) core stepped waited
+  pub runs : Runs [] (start_core plan no_tape built_in.mail) core stepped waited
   pub report : List ℕ
   pub reports : IsReport plan built_in (run_of plan no_tape) report
   pub told : Finishes old new (record { status = status_by (run_of plan no_tape).ending; text = report ++ counts_line stepped waited }) plain.status

@@ -12,14 +12,15 @@ use Rattle.plan_tree.specs.declared.plan.Deed.TheVariants.{Pulse}
 use Rattle.plan_tree.specs.declared.plan.PlanStmt.{PlanStmt}
 use Rattle.plan_tree.specs.declared.plan.PlanStmt.TheVariants.{Block}
 use Rattle.plan_tree.specs.Sound.{start_key, start_cmp}
+use Rattle.qs_machine.specs.declared.machine.Port.{Port}
+use Rattle.qs_machine.specs.BuiltIn.{built_in}
 use Rattle.box_schedule.specs.declared.block.TOp.{TOp, roll-TOp}
 use Rattle.box_schedule.specs.Placement.{starts_of, length_of, longest}
 use Rattle.qasm_main.specs.declared.statement.Statement.{Statement}
 use Rattle.qasm_main.specs.declared.statement.Statement.TheVariants.{X, Cx, Delay, Barrier}
 use Rattle.qasm_main.specs.declared.statement.Sentence.{Sentence}
-use Rattle.qasm_main.specs.BuiltIn.{frames, owner, controllers, gap, budget}
 
--- the waveforms of `x` and `cx`, and how many ticks they last
+-- the waveforms of `x` and `cx` by their places in the machine's list, and how many ticks they last
 abbrev pub w4 : ℕ
 w4 = 0
 
@@ -87,16 +88,20 @@ abbrev pub IsBodyBy : Bool → List Sentence → List PlanStmt → Type 0
 IsBodyBy true sentences body = body ≡ []
 IsBodyBy false sentences body = (b : Block-) × (body ≡ Block b ∷ []) × IsBlockOf sentences b
 
+-- the controllers of ports
+abbrev pub owners_of : List Port → List ℕ
+owners_of ports = map (λ p. p.controller) ports
+
 -- the plan of statements, on the built-in machine
 pub record IsPlanOf (sentences : List Sentence) (plan : Plan) : Type 0 where
   pub vars : plan.vars ≡ []
   pub inputs : plan.inputs ≡ []
   pub outs : plan.outs ≡ []
-  pub frames : plan.frames ≡ frames
-  pub owner : plan.owner ≡ owner
-  pub controllers : plan.controllers ≡ controllers
-  pub gap : plan.gap ≡ gap
-  pub budget : plan.budget ≡ budget
+  pub frames : plan.frames ≡ built_in.frames
+  pub owner : plan.owner ≡ owners_of built_in.ports
+  pub controllers : plan.controllers ≡ length built_in.controllers
+  pub gap : plan.gap ≡ built_in.gap
+  pub budget : plan.budget ≡ built_in.budget
   pub body : IsBodyBy (is_left_out sentences) sentences plan.body
 
 -- the plan of some statements

@@ -1,7 +1,6 @@
 pub mod Source
 pub mod Statement
 pub mod Spelled
-pub mod BuiltIn
 pub mod Compiled
 pub mod Named
 pub mod Reads

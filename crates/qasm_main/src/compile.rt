@@ -2,22 +2,23 @@ ghost use Rattle.std.specs.Prelude.{◌≡◌, ◌≤◌, ◌^◌, ◌++◌, All
 ghost use Rattle.std.specs.List.Sorted.{IsPermutation, IsSortedByKey};
 ghost use Rattle.box_schedule.specs.Placement.{length_of, starts_of};
 ghost use Rattle.plan_tree.specs.Sound.{IsSound, start_cmp, start_key};
-ghost use Rattle.qasm_main.specs.Compiled.{IsBodyBy, PlanIs, is_left_out, op_by, ops_of, pulse_at, pulses_by, pulses_from, tick_out_at, timed};
+ghost use Rattle.qs_machine.specs.BuiltIn.{built_in};
+ghost use Rattle.qasm_main.specs.Compiled.{IsBodyBy, PlanIs, is_left_out, op_by, ops_of, owners_of, pulse_at, pulses_by, pulses_from, tick_out_at, timed};
 ghost use Rattle.qasm_main.specs.Statement.{AreKnown, IsKnown};
 
-use crate::builtin::{self, BUDGET, CONTROLLERS, GAP};
 use crate::statement::{Sentence, Statement};
 use box_schedule::{BoxRefusal, Placed, TBlock, TOp, schedule};
 use plan_tree::{Block, Deed, Event, Plan, PlanStmt};
-use qs_values::{Affine, Halt, List, Memory, Refusal, Span};
+use qs_machine::{Machine, Port};
+use qs_values::{Affine, FrameStart, Halt, List, Memory, Name, Refusal, Span};
 use std::alloc::{AllocError, Global};
 
-/// The waveform `w4` of `x`, and how many ticks it lasts.
+/// The waveform `w4` of `x` by its place in the machine's list, and how many ticks it lasts.
 const SHORT_WAVE: u16 = 0;
 
 const SHORT_TICKS: u64 = 4;
 
-/// The waveform `w8` of `cx`, and how many ticks it lasts.
+/// The waveform `w8` of `cx` by its place there, and how many ticks it lasts.
 const LONG_WAVE: u16 = 1;
 
 const LONG_TICKS: u64 = 8;
@@ -157,11 +158,39 @@ fn tick_out(alloc: Global, span: Span) -> Refusal
     }
 }
 
-/// The plan of statements: one block of pulses at their earliest starts, or none where nothing
-/// plays and no tick passes.
+/// The frames of a machine as a run begins.
+fn frames_of(alloc: Global, frames: &[FrameStart]) -> Result<List<FrameStart>, Memory>
+    ensures { IfOk result (λ all. all ≡ frames.now) }
+{
+    let mut all = Vec::with_capacity(alloc, frames.len())?;
+    for frame in frames {
+        all.push(FrameStart {
+            name: Name::copy_of(alloc, frame.name.as_str())?,
+            port: frame.port,
+            phase: frame.phase,
+            hz: frame.hz,
+        })?;
+    }
+    Ok(List::from_vec(all))
+}
+
+/// The controllers of ports.
+fn owners_of(alloc: Global, ports: &[Port]) -> Result<List<u8>, Memory>
+    ensures { IfOk result (λ all. all ≡ owners_of ports.now) }
+{
+    let mut all = Vec::with_capacity(alloc, ports.len())?;
+    for port in ports {
+        all.push(port.controller)?;
+    }
+    Ok(List::from_vec(all))
+}
+
+/// The plan of statements on the built-in machine: one block of pulses at their earliest starts, or none where
+/// nothing plays and no tick passes.
 ///
 /// Refused with code 203, at the first statement, where the block lasts longer than 2^40 ticks.
-pub fn plan_of(alloc: Global, sentences: &[Sentence]) -> Result<Plan, Halt>
+pub fn plan_of(alloc: Global, sentences: &[Sentence], machine: &Machine) -> Result<Plan, Halt>
+    requires builtin { machine.now ≡ built_in }
     requires known { All AreKnown sentences.now }
     requires few { length sentences.now ≤ 65536 }
     ensures plan { PlanIs sentences.now result }
@@ -178,11 +207,11 @@ pub fn plan_of(alloc: Global, sentences: &[Sentence]) -> Result<Plan, Halt>
         vars: List::new(alloc),
         inputs: List::new(alloc),
         outs: List::new(alloc),
-        frames: builtin::frames(alloc)?,
-        owner: builtin::owner(alloc)?,
-        controllers: CONTROLLERS,
-        gap: GAP,
-        budget: BUDGET,
+        frames: frames_of(alloc, machine.frames.as_slice())?,
+        owner: owners_of(alloc, machine.ports.as_slice())?,
+        controllers: machine.controllers.len() as u8,
+        gap: machine.gap,
+        budget: machine.budget,
         body,
     })
 }
@@ -366,9 +395,10 @@ mod tests {
 
     #[test]
     fn plans(rt: HostRuntime) -> Result<(), Fail> {
+        let machine = Machine::builtin(rt.alloc())?;
         for (number, case) in CASES.iter().enumerate() {
             let sentences = make_sentences(&rt, rt.alloc(), case)?;
-            match (plan_of(rt.alloc(), &sentences), &case.wanted) {
+            match (plan_of(rt.alloc(), &sentences, &machine), &case.wanted) {
                 (Ok(plan), Wanted::NoBlock) => assert!(rt; plan.body.is_empty(), "case {number}"),
                 (Ok(plan), Wanted::Block(length, starts)) => {
                     check_block(&rt, number, &plan, *length, starts);

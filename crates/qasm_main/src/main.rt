@@ -2,7 +2,6 @@
 //! timeline.
 #![tactic(auto)]
 
-mod builtin;
 mod compile;
 mod laws;
 mod reader;

@@ -90,6 +90,7 @@ mod tests {
     use super::*;
     use crate::compile::plan_of;
     use crate::statement::{Sentence, Statement};
+    use qs_machine::Machine;
     use qs_values::Span;
     use std::test::Fail;
 
@@ -106,7 +107,8 @@ mod tests {
     #[test]
     fn splits(rt: HostRuntime) -> Result<(), Fail> {
         let alloc = rt.alloc();
-        let plan = plan_of(alloc, &[x_on(1), x_on(0), x_on(1), x_on(2)])?;
+        let machine = Machine::builtin(alloc)?;
+        let plan = plan_of(alloc, &[x_on(1), x_on(0), x_on(1), x_on(2)], &machine)?;
         let split = split(alloc, &plan)?;
         let counts = [0, 1, 2, 1, 0];
         assert_eq!(rt; split.parts.len(), counts.len());

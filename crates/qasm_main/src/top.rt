@@ -1,6 +1,7 @@
 ghost use Rattle.std.specs.Prelude.{◌≡◌, ◌⊎◌, ◌≤◌, ◌++◌, All, IfOk, IsSome, List, ℕ, length, map, string_bytes};
 ghost use Rattle.outside.specs.Sink.{PutsText, SinkState};
 ghost use Rattle.plan_tree.specs.Sound.{IsSound};
+ghost use Rattle.qs_machine.specs.BuiltIn.{built_in};
 ghost use Rattle.timeline_board.specs.Refused.{name_of};
 ghost use Rattle.qasm_main.specs.declared.statement.Sentence.{Sentence as Said};
 ghost use Rattle.qasm_main.specs.Source.{most_statements};
@@ -21,6 +22,7 @@ use crate::words::file_of;
 use controller_core::{Core, Counts};
 use outside::{PutFailed, Shelf, Sink, TakeFault, Taken, TextBuffer};
 use plan_tree::Plan;
+use qs_machine::Machine;
 use qs_values::{Halt, List, Memory, Name, Refusal};
 use std::alloc::Global;
 use timeline_board::{refused, report};
@@ -95,22 +97,24 @@ fn put_counts<K: Sink>(sink: &mut K, counts: Counts) -> Result<(), PutFailed>
 }
 
 /// Puts the report of a run and its counts.
-fn put_run<K: Sink>(sink: &mut K, ran: &Ran) -> Result<(), PutFailed>
+fn put_run<K: Sink>(sink: &mut K, ran: &Ran, machine: &Machine) -> Result<(), PutFailed>
+    requires builtin { machine.now ≡ built_in }
     requires compiled { IsCompiled ran.now.plan }
     requires ran { IsRunOf ran.now.plan ran.now }
     ensures { PutsRun ran.now (K.state sink.old) (K.state sink.new) result }
 {
-    report(&ran.plan, &ran.machine, &ran.core, sink)?;
+    report(&ran.plan, machine, &ran.core, sink)?;
     put_counts(sink, ran.counts)
 }
 
 /// Tells the report of a run and its counts, and hands back its core.
-fn tell_run<K: Sink>(sink: &mut K, ran: Ran) -> Plain
+fn tell_run<K: Sink>(sink: &mut K, ran: Ran, machine: &Machine) -> Plain
+    requires builtin { machine.now ≡ built_in }
     requires compiled { IsCompiled ran.plan }
     requires ran { IsRunOf ran.plan ran }
     ensures { (sentences : List Said) → IsPlanOf sentences ran.plan → Steps sentences (K.state sink.old) (K.state sink.new) result }
 {
-    let written = put_run(sink, &ran);
+    let written = put_run(sink, &ran, machine);
     Plain {
         status: status_of(written, 0),
         core: Some(ran.core),
@@ -151,38 +155,49 @@ fn answer_longer<K: Sink>(alloc: Global, name: &str, sink: &mut K) -> Plain
 }
 
 /// Runs a plan and tells the report.
-fn answer_plan<K: Sink>(alloc: Global, plan: Plan, sink: &mut K) -> Plain
+fn answer_plan<K: Sink>(alloc: Global, plan: Plan, machine: &Machine, sink: &mut K) -> Plain
+    requires builtin { machine.now ≡ built_in }
     requires compiled { IsCompiled plan }
     requires sound { IsSound plan }
     ensures { (sentences : List Said) → IsPlanOf sentences plan → WantsMemory (K.state sink.old) (K.state sink.new) result ⊎ Steps sentences (K.state sink.old) (K.state sink.new) result }
 {
-    match run(alloc, plan) {
-        Ok(ran) => tell_run(sink, ran),
+    match run(alloc, plan, machine) {
+        Ok(ran) => tell_run(sink, ran, machine),
         Err(_) => want_of_memory(),
     }
 }
 
-/// Compiles statements, runs them and tells the report, or the refusal of a block that is too long.
-fn answer_sentences<K: Sink>(alloc: Global, sentences: &[Sentence], sink: &mut K) -> Plain
+/// Compiles statements for the built-in machine, runs them and tells the report, or the refusal of a block that
+/// is too long.
+fn answer_sentences<K: Sink>(
+    alloc: Global,
+    sentences: &[Sentence],
+    machine: &Machine,
+    sink: &mut K,
+) -> Plain
+    requires builtin { machine.now ≡ built_in }
     requires known { All AreKnown sentences.now }
     requires few { length sentences.now ≤ MOST }
     ensures { WantsMemory (K.state sink.old) (K.state sink.new) result ⊎ AnswersBuilt sentences.now (K.state sink.old) (K.state sink.new) result }
 {
-    match plan_of(alloc, sentences) {
-        Ok(plan) => answer_plan(alloc, plan, sink),
+    match plan_of(alloc, sentences, machine) {
+        Ok(plan) => answer_plan(alloc, plan, machine, sink),
         Err(Halt::Refused(refusal)) => tell_refusal(sink, &refusal, 1),
         Err(Halt::Memory) => want_of_memory(),
     }
 }
 
-/// Runs a source and tells its report, or its refusal.
+/// Runs a source on the built-in machine and tells its report, or its refusal.
 fn answer_source<K: Sink>(alloc: Global, source: &[u8], sink: &mut K, most: u32) -> Plain
     requires short { length source.now ≤ LIMIT }
     requires few { most ≤ MOST }
     ensures { WantsMemory (K.state sink.old) (K.state sink.new) result ⊎ AnswersSource most source.now (K.state sink.old) (K.state sink.new) result }
 {
+    let Ok(machine) = Machine::builtin(alloc) else {
+        return want_of_memory();
+    };
     match read(alloc, source, most) {
-        Ok(sentences) => answer_sentences(alloc, sentences.as_slice(), sink),
+        Ok(sentences) => answer_sentences(alloc, sentences.as_slice(), &machine, sink),
         Err(Halt::Refused(refusal)) => tell_refusal(sink, &refusal, 1),
         Err(Halt::Memory) => want_of_memory(),
     }

@@ -4,6 +4,5 @@ pub mod ShiftLemmas
 pub mod SmallNumbers
 pub mod PiNames
 pub mod FoldingRows
-pub mod OneNumber
 pub mod OneMade
 pub mod OneOutcome

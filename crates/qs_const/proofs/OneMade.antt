@@ -14,7 +14,7 @@ use Rattle.qs_tree.specs.declared.operator.BinOp.TheVariants.{Power, Mul, Div, R
 use Rattle.qs_const.specs.declared.made.Made.{Made}
 use Rattle.qs_const.specs.declared.made.Made.TheVariants.{Gives}
 use Rattle.qs_const.specs.Operations.{ByResult, DividesOther, IsCount, IsExponent, IsNoExponent, IsNotWhole, IsOutside, IsPower, IsWhole, MakesNumber, MakesWhole, OfAlike, OfNumbers, OfTruths, OfWholes, OnWholes, PairMakes, PowerMakes, QuotientMakes, RaisedIs, RemainderMakes, Remains, ShiftMakes, ShiftedIs, ShiftsDown, ShiftsUp, SignIs, Times, number_made}
-use Rattle.qs_const.proofs.OneNumber.{difference_once, nonzero_den, number_once, one_nonzero, product_once, ratio_once, sum_once}
+use Rattle.qs_values.proofs.OneNumber.{difference_once, nonzero_den, number_once, one_nonzero, product_once, ratio_once, sum_once}
 
 -- a relation that at most one thing meets
 abbrev pub Once : (Made → Type 0) → Type 0

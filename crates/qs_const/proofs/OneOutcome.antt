@@ -13,7 +13,7 @@ use Rattle.qs_const.specs.declared.folded.Fault.{Fault}
 use Rattle.qs_const.specs.Trees.{Tree, Integer, Fraction, Given, Quoted, Truthful, Named, Indexed, Enclosed, Signed, Joined, Other, tree_of}
 use Rattle.qs_const.specs.Folding.{Folds, IndexMakes, IsFoldable, NameMakes, constant_in, one_folded, own_fault, times_pi, two_folded, unless_fault, value_of}
 use Rattle.qs_const.specs.Operations.{PairMakes, SignIs}
-use Rattle.qs_const.proofs.OneNumber.{number_once, one_nonzero, one_zero, same_number}
+use Rattle.qs_values.proofs.OneNumber.{number_once, one_nonzero, one_zero, same_number}
 use Rattle.qs_const.proofs.OneMade.{Once, makes_whole, pair_once, sign_once}
 
 -- ---- names

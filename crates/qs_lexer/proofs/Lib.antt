@@ -24,7 +24,6 @@ pub mod PieceLemmas
 pub mod CutLemmas
 pub mod FrontLemmas
 pub mod FaultLemmas
-pub mod FracOnce
 pub mod PieceOnce
 pub mod ReadableOnce
 pub mod EndOnce

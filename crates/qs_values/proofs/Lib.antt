@@ -2,3 +2,6 @@ pub mod AngleLemmas
 pub mod LowestLemmas
 pub mod NumberLemmas
 pub mod OneQuotient
+pub mod FracOnce
+pub mod OneNumber
+pub mod AsciiWords

@@ -4,3 +4,4 @@ pub mod Kind
 pub mod Lowest
 pub mod Names
 pub mod Number
+pub mod Once

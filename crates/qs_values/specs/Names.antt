@@ -17,9 +17,9 @@ is_letter OtherLetter = true
 is_letter LetterNumber = true
 is_letter _ = false
 
--- whether a character begins a word: `_`, an ASCII letter, or past ASCII a letter by its category
+-- whether a character begins a word: `_`, an ASCII letter, or a letter by its category
 abbrev pub begins_word : ℕ → Bool
-begins_word c = nat_eq c 95 || is_ascii_alphabetic c || (nat_le 128 c && is_letter (general_category c))
+begins_word c = nat_eq c 95 || is_ascii_alphabetic c || is_letter (general_category c)
 
 -- whether a character goes on with a word
 abbrev pub continues_word : ℕ → Bool
@@ -41,6 +41,7 @@ reserved =
     ∷ codes "array" ∷ codes "let" ∷ codes "complex" ∷ codes "float" ∷ codes "qreg" ∷ codes "creg" ∷ codes "switch" ∷ codes "case" ∷ codes "default" ∷ codes "def"
     ∷ codes "sizeof" ∷ codes "void" ∷ codes "readonly" ∷ codes "mutable" ∷ []
 
+-- whether these bytes are a reserved word
 abbrev pub is_reserved : List ℕ → Bool
 is_reserved bytes = list_any (bytes_eq bytes) reserved
 

@@ -2,7 +2,9 @@
 #![tactic(auto)]
 
 mod angle;
+mod boxed;
 mod kind;
+mod laws;
 mod list;
 mod lowest;
 mod name;
@@ -16,7 +18,9 @@ mod tests;
 mod word;
 
 pub use angle::to_angle;
+pub use boxed::Boxed;
 pub use kind::{Input, Kind, Out, Ty};
+pub use laws::computed_once;
 pub use list::List;
 pub use name::Name;
 pub use number::{AngleVal, Frac, Num};
@@ -24,4 +28,4 @@ pub use refusal::{Halt, Memory, NumRefusal, Refusal};
 pub use span::Span;
 pub use stretch::{Affine, Group, Part1, Row};
 pub use tape::{FrameStart, Tape};
-pub use word::{begins_word, continues_word, is_name, is_reserved};
+pub use word::{begins_word, continues_word, is_name};

@@ -31,30 +31,35 @@ impl<T> List<T> {
         }
     }
 
+    /// The elements of a `Vec`.
     pub fn from_vec(held: Vec<T>) -> List<T>
         ensures { result ≡ held.items }
     {
         List { held }
     }
 
+    /// The elements, in order.
     pub fn as_slice(&self) -> &[T]
         ensures { result.now ≡ self.now }
     {
         self.held.as_slice()
     }
 
+    /// How many elements there are.
     pub fn len(&self) -> usize
         ensures { result ≡ length self.now }
     {
         self.held.len()
     }
 
+    /// Whether there is no element.
     pub fn is_empty(&self) -> bool
         ensures { IsTrue result ↔ (self.now ≡ []) }
     {
         self.held.is_empty()
     }
 
+    /// The element at a place from 0 on, and `None` past the end.
     pub fn get(&self, index: usize) -> Option<&T>
         ensures value { option_copied result ≡ slice_get self.now index }
         ensures within { IsSome result ↔ (index < length self.now) }

@@ -21,12 +21,14 @@ impl Model for Name {
 }
 
 impl Name {
+    /// The text of a `String`.
     pub fn from_string(held: String) -> Name
         ensures { result ≡ string_bytes held }
     {
         Name { held }
     }
 
+    /// A copy of a text; an error where memory is wanting.
     pub fn copy_of(alloc: Global, text: &str) -> Result<Name, AllocError>
         ensures { IfOk result (λ n. n ≡ text.now) }
     {
@@ -35,6 +37,7 @@ impl Name {
         })
     }
 
+    /// The text.
     pub fn as_str(&self) -> &str
         ensures { result.now ≡ self.now }
     {

@@ -1,7 +1,7 @@
 ghost use Rattle.std.specs.Prelude.{◌≤◌};
 
-use crate::{Frac, Num, NumRefusal, begins_word, is_name, to_angle};
-use unicode::properties::GeneralCategory;
+use crate::{Boxed, Frac, Num, NumRefusal, is_name, to_angle};
+use std::test::Fail;
 
 /// 10^18, which both parts of a fraction are below in size.
 const LIMIT: i64 = 1_000_000_000_000_000_000;
@@ -228,20 +228,10 @@ fn names(rt: HostRuntime) {
     }
 }
 
-/// Of ASCII, `_` and the characters of a letter's category alone begin a word.
 #[test]
-fn ascii_letters(rt: HostRuntime) {
-    for code in 0..128u8 {
-        let c = code as char;
-        let is_letter = matches!(
-            GeneralCategory::for_char(c),
-            GeneralCategory::UppercaseLetter
-                | GeneralCategory::LowercaseLetter
-                | GeneralCategory::TitlecaseLetter
-                | GeneralCategory::ModifierLetter
-                | GeneralCategory::OtherLetter
-                | GeneralCategory::LetterNumber
-        );
-        assert_eq!(rt; begins_word(c), c == '_' || is_letter, "{code}");
-    }
+fn boxes(rt: HostRuntime) -> Result<(), Fail> {
+    let boxed = Boxed::new(rt.alloc(), 7)?;
+    assert_eq!(rt; *boxed.get(), 7);
+    assert_eq!(rt; boxed.into_inner(), 7);
+    Ok(())
 }

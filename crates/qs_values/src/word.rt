@@ -106,7 +106,7 @@ fn is_word(text: &str) -> bool
 }
 
 /// Whether a text is a reserved word of OpenQASM 3.0, also one that this project leaves out.
-pub fn is_reserved(text: &str) -> bool
+fn is_reserved(text: &str) -> bool
     ensures { result ≡ is_reserved text.now }
 {
     RESERVED.iter().any(|word| text == *word)

@@ -1,15 +1,12 @@
 -- The order of entries by tick and then by port.
 use Rattle.std.proofs.Common.{◌≡◌, Bool, true, false, refl}
-use Rattle.std.specs.Cmp.{IsStrictWeakOrder, IsTotalOrder}
+use Rattle.std.specs.Cmp.{IsStrictWeakOrder}
 use Rattle.std.specs.Ordering.{is_lt}
-use Rattle.std.proofs.lemmas.Cmp.{then_total, on_total, nat_cmp_total}
 use Rattle.std.proofs.lemmas.List.Sorted.{ranks_by}
 use Rattle.plan_tree.specs.Sound.{start_cmp}
+use Rattle.plan_tree.proofs.InOrder.{start-total}
 use Rattle.controller_machine.specs.declared.ctl.Played.{Played}
 use Rattle.timeline_board.specs.Order.{IsNotBefore, play_key}
-
-start-total : IsTotalOrder start_cmp
-start-total = then_total (on_total (λ x. x.0) nat_cmp_total) (on_total (λ x. x.1) nat_cmp_total)
 
 abbrev pub before : Played → Played → Bool
 before q p = is_lt (start_cmp (play_key q) (play_key p))

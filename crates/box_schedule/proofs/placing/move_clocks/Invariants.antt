@@ -3,4 +3,4 @@ use Rattle.std.specs.List.{list_any}
 use Rattle.box_schedule.proofs.placing.move_clocks.Given as goal
 
 abbrev pub invariant-loop-qubit : goal.invariant-loop-qubit
-invariant-loop-qubit l = (q : ℕ) → q < 32 → slice_index l.clocks q ≡ (if list_any (nat_eq q) (take l.qubit-index l.qubits) then l.end else slice_index l.fn.clocks q)
+invariant-loop-qubit l = (q : ℕ) → q < 256 → slice_index l.clocks q ≡ (if list_any (nat_eq q) (take l.qubit-index l.qubits) then l.end else slice_index l.fn.clocks q)

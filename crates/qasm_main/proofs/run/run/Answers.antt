@@ -1,7 +1,7 @@
 use Rattle.std.proofs.Common.{◌≡◌, [], ap, refl, subst, ◌∙◌}
 use Rattle.qs_values.specs.declared.tape.Tape.{Tape}
 use Rattle.controller_core.specs.Core.{Runs, start_core}
-use Rattle.qasm_main.specs.BuiltIn.{mail, no_tape}
+use Rattle.qasm_main.specs.Ran.{no_tape}
 use Rattle.qasm_main.proofs.run.run.Goals as goal
 
 pub returns : goal.returns
@@ -11,7 +11,6 @@ returns c =
     let empty : tape ≡ no_tape = rw (c.new.ensures, c.new-2.ensures) refl in
     record {
       plan_same = refl;
-      machine = c.in_ok-builtin.ensures;
       reached = c.run_order-counts.ensures.reached;
-      runs = subst (λ start. Runs [] start c.run_order-counts.new.self c.run_order-counts.result.stepped c.run_order-counts.result.waited) (c.in_ok-core.ensures.start ∙ ap (λ t. start_core c.args.plan t mail) empty) runs;
+      runs = subst (λ start. Runs [] start c.run_order-counts.new.self c.run_order-counts.result.stepped c.run_order-counts.result.waited) (c.in_ok-core.ensures.start ∙ ap (λ t. start_core c.args.plan t built_in.mail) empty) runs;
     }

@@ -1,7 +1,7 @@
 use Rattle.std.proofs.Common.{refl}
 use Rattle.plan_tree.specs.Run.{run_of}
 use Rattle.controller_machine.proofs.Entries.{run-ending}
-use Rattle.qasm_main.specs.BuiltIn.{no_tape}
+use Rattle.qasm_main.specs.Ran.{no_tape}
 use Rattle.qasm_main.proofs.Telling.{told-run}
 use Rattle.qasm_main.proofs.top.tell_run.Goals as goal
 

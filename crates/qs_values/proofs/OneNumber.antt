@@ -4,14 +4,14 @@ use Rattle.std.proofs.Math.Nat.{eq_of_mul-eq-mul_right}
 use Rattle.std.proofs.lemmas.Int.{ints, unsigned_abs-mul}
 use borrow.Author.Differences.{up, down, same_in, product_is}
 use Rattle.qs_values.specs.Lowest.{IsLowest, IsWide}
-use Rattle.qs_values.specs.Number.{DifferenceIs, IsFrac, IsZero, NumberIs, ProductIs, RatioIs, ScaledIs, SumIs}
+use Rattle.qs_values.specs.Number.{DifferenceIs, IsFrac, IsZero, NumberIs, ProductIs, QuotientIs, RatioIs, ScaledIs, SumIs}
 use Rattle.qs_values.specs.declared.number.Frac.{Frac}
 use Rattle.qs_values.specs.declared.number.Num.{Num}
 use Rattle.qs_values.specs.declared.refusal.NumRefusal.{NumRefusal}
 use Rattle.qs_values.specs.declared.refusal.NumRefusal.TheVariants.{TooWide, PiTimesPi, ByZero, ByPi}
 use Rattle.qs_values.proofs.LowestLemmas.{abs_above}
 use Rattle.qs_values.proofs.OneQuotient.{answer_excludes_wide}
-use Rattle.qs_lexer.proofs.FracOnce.{frac_once}
+use Rattle.qs_values.proofs.FracOnce.{frac_once}
 
 pub same_number : (x y : Num) → x.plain ≡ y.plain → x.pi ≡ y.pi → x ≡ y
 same_number x y plain pi = λ i. record { plain = plain i; pi = pi i }
@@ -22,6 +22,27 @@ zero_is f p = record { same = omega (arith, ints, p); above = f.above; coprime =
 -- 0 is one fraction, with the denominator 1
 pub one_zero : (f g : Frac) → IsZero f → IsZero g → f ≡ g
 one_zero f g p q = frac_once (pos 0) (pos 1) f g (λ e. omega (arith, ints, e)) (zero_is f p) (zero_is g q)
+
+-- ---- quotients of whole numbers
+
+pub quotient_once : (n d : ℤ) (r s : Result Frac NumRefusal) → QuotientIs n d r → QuotientIs n d s → r ≡ s
+quotient_once n d (Ok f) (Ok g) h k = ap Ok (frac_once n d f g h.0 h.1 k.1)
+quotient_once n d (Ok f) (Err TooWide) h k = absurd (answer_excludes_wide n d f h.0 h.1 k.1)
+quotient_once n d (Ok f) (Err ByZero) h k = absurd (h.0 k)
+quotient_once n d (Ok f) (Err PiTimesPi) h k = absurd k
+quotient_once n d (Ok f) (Err ByPi) h k = absurd k
+quotient_once n d (Err TooWide) (Ok g) h k = absurd (answer_excludes_wide n d g k.0 k.1 h.1)
+quotient_once n d (Err TooWide) (Err TooWide) h k = refl
+quotient_once n d (Err TooWide) (Err ByZero) h k = absurd (h.0 k)
+quotient_once n d (Err TooWide) (Err PiTimesPi) h k = absurd k
+quotient_once n d (Err TooWide) (Err ByPi) h k = absurd k
+quotient_once n d (Err ByZero) (Ok g) h k = absurd (k.0 h)
+quotient_once n d (Err ByZero) (Err TooWide) h k = absurd (k.0 h)
+quotient_once n d (Err ByZero) (Err ByZero) h k = refl
+quotient_once n d (Err ByZero) (Err PiTimesPi) h k = absurd k
+quotient_once n d (Err ByZero) (Err ByPi) h k = absurd k
+quotient_once n d (Err PiTimesPi) s h k = absurd h
+quotient_once n d (Err ByPi) s h k = absurd h
 
 -- ---- numbers
 
@@ -129,7 +150,7 @@ product_once x y r s (inr (inr h)) (inl k) = absurd (h.1 k.0)
 product_once x y r s (inr (inr h)) (inr (inl k)) = absurd (h.0 k.0)
 product_once x y r s (inr (inr h)) (inr (inr k)) = h.2 ∙ sym k.2
 
--- ---- quotients
+-- ---- quotients of numbers
 
 pub one_nonzero : pos 1 ≢ pos 0
 one_nonzero e = omega (arith, ints, e)
