@@ -41,10 +41,12 @@ start_core plan tape mail = record {
 abbrev pub body_of : CoreState → ℕ → List PartStmt
 body_of core k = (part_of core.plan k).body
 
+-- the core after a pick of a controller that wants this
 abbrev pub picked : CoreState → ℕ → List PartStmt → Counted → Want → CoreState
 picked core k body c WantsNothing = core
 picked core k body c Go = record core { controllers = slice_set core.controllers k (record { ctl = after_act body c.ctl; acts = c.acts + 1 }) }
 
+-- the core after a pick of a controller, where there is one of this number
 abbrev pub pick_by : CoreState → ℕ → Option Counted → CoreState
 pick_by core k None = core
 pick_by core k (Some c) = picked core k (body_of core k) c (want_of (body_of core k) c.ctl)
@@ -53,10 +55,12 @@ pick_by core k (Some c) = picked core k (body_of core k) c (want_of (body_of cor
 abbrev pub pick : CoreState → ℕ → CoreState
 pick core k = pick_by core k (slice_get core.controllers k)
 
+-- what a pick answers of a controller that wants this
 abbrev pub answer_by : Want → Stepped
 answer_by WantsNothing = Ended
 answer_by Go = Did
 
+-- what it answers, where there is a controller of this number
 abbrev pub answer_of : CoreState → ℕ → Option Counted → Stepped
 answer_of core k None = Ended
 answer_of core k (Some c) = answer_by (want_of (body_of core k) c.ctl)
@@ -70,11 +74,12 @@ abbrev pub picks : CoreState → List ℕ → CoreState
 picks core [] = core
 picks core (k ∷ ks) = picks (pick core k) ks
 
--- whether an answer counts as a step, and whether it counts as a wait
+-- whether an answer counts as a step
 abbrev pub one_if_stepped : Stepped → ℕ
 one_if_stepped Did = 1
 one_if_stepped Ended = 0
 
+-- whether it counts as a wait
 abbrev pub one_if_waited : Stepped → ℕ
 one_if_waited Did = 0
 one_if_waited Ended = 0

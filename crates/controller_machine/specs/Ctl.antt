@@ -44,6 +44,7 @@ settled (Block ticks items ∷ rest) s i t =
     if nat_lt i (length items) then record { statement = s; item = i; tick = t } else settled rest (s + 1) 0 (t + ticks)
 settled (Wait ticks ∷ rest) s i t = settled rest (s + 1) 0 (t + ticks)
 
+-- the item of this number in a statement
 abbrev pub item_in : ℕ → Option PartStmt → Option Item
 item_in i None = None
 item_in i (Some (Block ticks items)) = slice_get items i
@@ -53,6 +54,7 @@ item_in i (Some (Wait ticks)) = None
 abbrev pub item_at : List PartStmt → Spot → Option Item
 item_at body spot = item_in spot.item (slice_get body spot.statement)
 
+-- what a controller wants that stands before this item, or at its end
 abbrev pub want_by : Option Item → Want
 want_by None = Ended
 want_by (Some item) = Go
@@ -61,6 +63,7 @@ want_by (Some item) = Go
 abbrev pub want_of : List PartStmt → CtlState → Want
 want_of body c = want_by (item_at body c.spot)
 
+-- whether a run goes on, by what its controller wants
 abbrev pub ending_by : Want → Ending
 ending_by Go = Going
 ending_by Ended = Done
@@ -80,16 +83,19 @@ played_of frames tick e (Pulse f w) = record {
   bit = None;
 }
 
--- a controller that has done an item
+-- a controller that has done a deed of its own
 abbrev pub with_deed : CtlState → Event → Deed → CtlState
 with_deed c e (Pulse f w) = record c { log = c.log ++ played_of c.frames c.spot.tick e (Pulse f w) ∷ []; room = c.room - 1 }
 
+-- a controller that has done this item
 abbrev pub with_item : CtlState → Item → CtlState
 with_item c (Own e) = with_deed c e e.act
 
+-- the first spot with an item behind this one
 abbrev pub behind : List PartStmt → Spot → Spot
 behind body spot = settled (drop spot.statement body) spot.statement (spot.item + 1) spot.tick
 
+-- a controller after an item at its spot
 abbrev pub after_item : List PartStmt → CtlState → Option Item → CtlState
 after_item body c None = c
 after_item body c (Some item) = at_spot body (with_item c item) (behind body c.spot)

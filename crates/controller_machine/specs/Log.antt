@@ -17,6 +17,7 @@ played_at tick (Pulsed port wave phase hz) = Some (record { tick = tick; port = 
 abbrev pub played_in : Entry → Option Played
 played_in e = played_at e.tick e.what
 
+-- what an act plays
 abbrev pub played_by : Act → Option Played
 played_by (Own k e) = played_in e
 

@@ -15,6 +15,7 @@ pub record SinkInMemory : Type 0 where
   pub piece : ℕ
   pub faults : ℕ
 
+-- the bytes and the faults of a sink in memory
 abbrev pub sink_state : SinkInMemory → SinkState
 sink_state s = record { bytes = Some s.bytes; faults = s.faults }
 
@@ -34,6 +35,7 @@ pub record ShelfInMemory : Type 0 where
   pub faults : ℕ
   pub failed : List ℕ
 
+-- the files, the faults and the failed name of a shelf in memory
 abbrev pub shelf_state : ShelfInMemory → ShelfState
 shelf_state s = record { files = Some s.files; faults = s.faults; failed = s.failed }
 

@@ -13,6 +13,7 @@ pub record HasPut (start now : SinkState) (waiting text : List ℕ) : Type 0 whe
   pub cut : text ≡ front ++ waiting
   pub state : now ≡ with_text start front
 
+-- the same by whether a fault came
 abbrev pub IsAtBy : SinkState → SinkState → List ℕ → List ℕ → Bool → Type 0
 IsAtBy start now waiting text false = HasPut start now waiting text
 IsAtBy start now waiting text true = StopsIn start now text

@@ -73,12 +73,15 @@ impl TextBuffer {
         ensures { GoesOn (K.state sink.old) self.old (K.state sink.new) self.new text.now }
     {
         if text.len() <= ROOM - self.len {
-            keep(&mut self.held, self.len, text);
-            self.len += text.len();
+            self.wait(text);
             return;
         }
         self.put_waiting(sink);
-        self.failed = put_unless(self.failed, sink, text);
+        if text.len() <= ROOM {
+            self.wait(text);
+        } else {
+            self.failed = put_unless(self.failed, sink, text);
+        }
     }
 
     /// Goes on with a number in decimal digits.
@@ -100,6 +103,15 @@ impl TextBuffer {
 }
 
 impl TextBuffer {
+    /// Lets these bytes wait, for which there is room.
+    fn wait(&mut self, text: &[u8])
+        requires { length self.old.bytes + length text.now ≤ 4096 }
+        ensures { self.new ≡ record { bytes = self.old.bytes ++ text.now; failed = self.old.failed } }
+    {
+        keep(&mut self.held, self.len, text);
+        self.len += text.len();
+    }
+
     /// Puts what waits, where no fault came before.
     fn put_waiting<K: Sink>(&mut self, sink: &mut K)
         ensures same { (start : SinkState) (text : List ℕ) → IsAt start (K.state sink.old) self.old text → IsAt start (K.state sink.new) self.new text }

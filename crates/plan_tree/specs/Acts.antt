@@ -18,6 +18,7 @@ actor (Own k e) = k
 abbrev pub acts_by : Plan → Entry → Happening → List Act
 acts_by plan e (Pulsed port wave phase hz) = Own (owner_of plan port) e ∷ []
 
+-- the acts of an entry of the trace
 abbrev pub acts_in : Plan → Entry → List Act
 acts_in plan e = acts_by plan e e.what
 

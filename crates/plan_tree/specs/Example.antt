@@ -34,13 +34,15 @@ first = record { offset = 0; port = 0; act = Pulse 0 4 }
 abbrev pub second : Event
 second = record { offset = 10; port = 1; act = Pulse 1 5 }
 
+-- the event of the second block
 abbrev pub third : Event
 third = record { offset = 5; port = 1; act = Pulse 1 6 }
 
--- the blocks
+-- the first of two blocks
 abbrev pub first_block : Block-
 first_block = record { length = 100; events = first ∷ second ∷ [] }
 
+-- the second of them
 abbrev pub second_block : Block-
 second_block = record { length = 50; events = third ∷ [] }
 
@@ -62,13 +64,15 @@ example_plan = record {
 abbrev pub example_tape : Tape
 example_tape = record { bits = []; inputs = 6 ∷ 200 ∷ [] }
 
--- what is played, each pulse at its place, at the tick of its block and its offset
+-- the first pulse that is played, at its place, at the tick of its block and its offset
 abbrev pub first_pulse : Entry
 first_pulse = record { place = 0 ∷ 0 ∷ []; tick = 0; what = Pulsed 0 4 1000 5000000000 }
 
+-- the second of them
 abbrev pub second_pulse : Entry
 second_pulse = record { place = 1 ∷ 0 ∷ []; tick = 10; what = Pulsed 1 5 7 6000000000 }
 
+-- the third of them
 abbrev pub third_pulse : Entry
 third_pulse = record { place = 0 ∷ 1 ∷ []; tick = 105; what = Pulsed 1 6 7 6000000000 }
 

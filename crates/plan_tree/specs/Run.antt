@@ -1,4 +1,4 @@
--- The undivided run of a plan: one tree, one store, one frame table, one tick. Each statement stands before what follows it.
+-- The undivided run of a plan: one tree, one store, one frame table, one tick. Each statement stands before what follows it. This project's own.
 use Rattle.std.specs.Prelude.{ℕ, ◌+◌, List, [], ◌∷◌, map, replicate, slice_get, unwrap_or}
 use Rattle.qs_values.specs.declared.tape.Tape.{Tape}
 use Rattle.qs_values.specs.declared.tape.FrameStart.{FrameStart}
@@ -58,12 +58,15 @@ pub record Onward : Type 0 where
 abbrev pub Walk : Type 0
 Walk = Place → Onward → Rest
 
+-- an entry, before the rest of a trace
 abbrev pub with_entry : Entry → Outcome → Outcome
 with_entry e o = record o { trace = e ∷ o.trace }
 
+-- the end of a run
 abbrev pub ends : Ending → Rest
 ends ending s = record { trace = []; store = s.store; tick = s.tick; ending = ending }
 
+-- what a frame is whose number is none
 abbrev pub no_frame : FrameState
 no_frame = record { phase = 0; hz = 0 }
 

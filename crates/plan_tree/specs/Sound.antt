@@ -23,6 +23,7 @@ use Rattle.plan_tree.specs.Deeds.{plays}
 abbrev pub weight_in : PlanStmt → ℕ
 weight_in (Block b) = 1 + length b.events
 
+-- how much statements weigh
 abbrev pub weight_of : List PlanStmt → ℕ
 weight_of body = sum (map weight_in body)
 
@@ -30,6 +31,7 @@ weight_of body = sum (map weight_in body)
 abbrev pub start_cmp : ℕ × ℕ → ℕ × ℕ → Ordering
 start_cmp x y = ordering_then (nat_cmp x.0 y.0) (nat_cmp x.1 y.1)
 
+-- the offset and the port of an event
 abbrev pub start_key : Event → ℕ × ℕ
 start_key e = (e.offset, e.port)
 
@@ -41,6 +43,7 @@ same_start d e = nat_eq d.port e.port && nat_eq d.offset e.offset
 abbrev pub IsSoundDeed : Plan → ℕ → ℕ → ℕ → Deed → Type 0
 IsSoundDeed plan ticks offset port (Pulse f w) = IsSomeAnd (slice_get plan.frames f) (λ s. s.port ≡ port) × (offset < ticks)
 
+-- An event of a block of so many ticks: its port has a controller, and its deed is sound.
 pub record IsSoundEvent (plan : Plan) (ticks : ℕ) (e : Event) : Type 0 where
   pub port : e.port < length plan.owner
   pub act : IsSoundDeed plan ticks e.offset e.port e.act
@@ -52,6 +55,7 @@ pub record IsSoundBlock (plan : Plan) (b : Block-) : Type 0 where
   pub order : IsSortedByKey start_key start_cmp b.events
   pub apart : IsDistinct same_start (filter (λ e. plays e.act) b.events)
 
+-- A statement is sound.
 abbrev pub IsSoundStmt : Plan → PlanStmt → Type 0
 IsSoundStmt plan (Block b) = IsSoundBlock plan b
 
@@ -73,6 +77,7 @@ abbrev pub AreApart : List Input → Type 0
 AreApart inputs = (i j : ℕ) (a b : Input) → i < j → slice_get inputs i ≡ Some a → slice_get inputs j ≡ Some b
     → (behind a ≤ b.first) ⊎ (behind b ≤ a.first)
 
+-- A plan is sound: its numbers are in range, its inputs and outputs have their variables, and its statements are sound.
 pub record IsSound (plan : Plan) : Type 0 where
   pub some : 1 ≤ plan.controllers
   pub few : plan.controllers ≤ 16

@@ -1,4 +1,4 @@
--- The widths of run-time types.
+-- The widths of run-time types (OpenQASM 3.0, types, in this project's profile).
 use Rattle.std.specs.Prelude.{ℕ, Bool, ◌&&◌, nat_le, nat_eq}
 use Rattle.qs_values.specs.declared.kind.Kind.{Kind}
 use Rattle.qs_values.specs.declared.kind.Kind.TheVariants.{Bit, Bool as Truth, Bits, Int, Uint, Angle}

@@ -6,7 +6,8 @@ use Rattle.std.proofs.lemmas.List.Sorted.{ranks_by}
 use Rattle.plan_tree.specs.Sound.{start_cmp}
 use Rattle.plan_tree.proofs.InOrder.{start-total}
 use Rattle.controller_machine.specs.declared.ctl.Played.{Played}
-use Rattle.timeline_board.specs.Order.{IsNotBefore, play_key}
+use Rattle.controller_machine.specs.Log.{play_key}
+use Rattle.timeline_board.specs.Order.{IsNotBefore}
 
 abbrev pub before : Played → Played → Bool
 before q p = is_lt (start_cmp (play_key q) (play_key p))

@@ -19,8 +19,8 @@ use Rattle.controller_machine.specs.Last.{IsLast}
 use Rattle.controller_machine.specs.Log.{log_of, timeline_of}
 use Rattle.controller_machine.proofs.Ordered.{logs-ordered}
 use Rattle.controller_machine.proofs.Timeline.{timeline-logs}
-use Rattle.timeline_board.specs.Order.{IsInOrder, IsMerge, IsOrdered, all_of, logs_planned}
-use Rattle.timeline_board.specs.Report.{ReportIsRun, report_text, run_text}
+use Rattle.timeline_board.specs.Order.{IsInOrder, all_of, logs_planned}
+use Rattle.timeline_board.specs.Report.{MergeIsTimeline, ReportIsRun, report_text, run_text}
 use Rattle.timeline_board.proofs.Merges.{merge-orders}
 
 -- What the log of all planned acts of each controller meets, all these logs meet.
@@ -41,7 +41,7 @@ planned-timeline plan tape sound =
     (timeline-logs plan tape sound)
 
 -- Merged, they are the timeline in order.
-merged-planned : (plan : Plan) (tape : Tape) (entries : List Played) → IsSound plan → IsMerge entries (logs_planned plan tape) → IsOrdered (timeline_of (run_of plan tape).trace) entries
+pub merged-planned : MergeIsTimeline
 merged-planned plan tape entries sound merged =
     let ordered = merge-orders (logs_planned plan tape) entries (planned-order plan tape sound) merged in
     record { all = IsPermutation-trans _ _ _ (planned-timeline plan tape sound) ordered.all; order = ordered.order }

@@ -9,7 +9,7 @@ use Rattle.plan_tree.specs.Acts.{planned_acts}
 use Rattle.plan_tree.specs.Parts.{numbers}
 use Rattle.plan_tree.specs.Sound.{start_cmp}
 use Rattle.controller_machine.specs.Ctl.{CtlState}
-use Rattle.controller_machine.specs.Log.{log_of}
+use Rattle.controller_machine.specs.Log.{log_of, play_key}
 use Rattle.controller_machine.specs.declared.ctl.Played.{Played}
 
 -- the logs of controllers
@@ -19,9 +19,6 @@ logs_of states = map (λ c. c.log) states
 -- the logs of controllers that have made all of their planned acts
 abbrev pub logs_planned : Plan → Tape → List (List Played)
 logs_planned plan tape = map (λ k. log_of (planned_acts plan tape k)) (numbers 0 plan.controllers)
-
-abbrev pub play_key : Played → ℕ × ℕ
-play_key p = (p.tick, p.port)
 
 -- an entry doesn't come before another
 abbrev pub IsNotBefore : Played → Played → Type 0
@@ -57,6 +54,7 @@ IsMerge (p ∷ ps) lefts = (rest : List (List Played)) × Gives lefts rest p × 
 abbrev pub IsInOrder : List Played → Type 0
 IsInOrder log = IsSortedByKey play_key start_cmp log
 
+-- the entries of all logs
 abbrev pub all_of : List (List Played) → List Played
 all_of logs = flat_map (λ log. log) logs
 

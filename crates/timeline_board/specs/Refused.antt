@@ -8,6 +8,7 @@ use Rattle.qs_values.specs.declared.refusal.Refusal.{Refusal}
 abbrev pub Named : Type 0
 Named = ℕ × List ℕ
 
+-- the codes and their names
 unfoldable pub names : List Named
 names =
     (10, codes "FileTooLong") ∷ (11, codes "MachineNotJson") ∷ (12, codes "FieldMissing") ∷ (13, codes "FieldWrong") ∷ (14, codes "NameDoubled")
@@ -32,11 +33,12 @@ names =
     ∷ (221, codes "DefDoubled") ∷ (222, codes "DefRecursive") ∷ (223, codes "DefArguments") ∷ (224, codes "DefReturn") ∷ (225, codes "DefPlace") ∷ (226, codes "DefTooLarge") ∷ (227, codes "DefForeign")
     ∷ []
 
--- the name of a code
+-- the name of a code in a list
 abbrev pub name_in : List Named → ℕ → Option (List ℕ)
 name_in [] code = None
 name_in (n ∷ ns) code = if nat_eq n.0 code then Some n.1 else name_in ns code
 
+-- the name of a code that is listed
 abbrev pub name_of : ℕ → Option (List ℕ)
 name_of code = name_in names code
 
@@ -45,6 +47,7 @@ abbrev pub place_text : Option Span → List ℕ
 place_text None = []
 place_text (Some place) = codes " " ++ decimal place.line ++ codes ":" ++ decimal place.col
 
+-- a word behind the name
 abbrev pub word_text : List ℕ → List ℕ
 word_text word = codes " " ++ word
 

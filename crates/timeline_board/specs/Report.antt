@@ -21,6 +21,7 @@ use Rattle.timeline_board.specs.Order.{IsMerge, IsOrdered, logs_planned}
 abbrev pub name_at : List (List ℕ) → ℕ → List ℕ
 name_at names n = unwrap_or (slice_get names n) []
 
+-- the word of an entry
 abbrev pub entry_word : Option ℕ → List ℕ
 entry_word None = codes "pulse "
 entry_word (Some bit) = codes "capture "
@@ -56,13 +57,16 @@ value_text store first Int width = signed_text width (slice_index store first)
 value_text store first Uint width = decimal (slice_index store first)
 value_text store first Angle width = decimal (slice_index store first)
 
+-- the line of an output
 abbrev pub out_line : List ℕ → Out → List ℕ
 out_line store out = codes "out " ++ out.name ++ codes " " ++ value_text store out.first out.ty.kind out.ty.width ++ codes "\n"
 
+-- the word of an ending, which a run that goes on has none of
 abbrev pub ending_word : Ending → List ℕ
 ending_word Going = []
 ending_word Done = codes "done"
 
+-- the last line
 abbrev pub end_line : ℕ → Ending → List ℕ
 end_line tick ending = codes "end " ++ decimal tick ++ codes " " ++ ending_word ending ++ codes "\n"
 
@@ -81,6 +85,11 @@ pub record IsReport (plan : Plan) (machine : Machine) (run : Outcome) (text : Li
   pub entries : List Played
   pub ordered : IsOrdered (timeline_of run.trace) entries
   pub lines : text ≡ run_text plan machine entries run
+
+-- The merged logs of controllers that have made all of their planned acts are the timeline of the undivided run, by tick and then by port number.
+abbrev pub MergeIsTimeline : Type 0
+MergeIsTimeline = (plan : Plan) (tape : Tape) (entries : List Played)
+    → IsSound plan → IsMerge entries (logs_planned plan tape) → IsOrdered (timeline_of (run_of plan tape).trace) entries
 
 -- The merged logs of controllers that have made all of their planned acts, reported with the hub's last state, are the report of the undivided run.
 abbrev pub ReportIsRun : Type 0

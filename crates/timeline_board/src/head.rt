@@ -2,7 +2,8 @@ ghost use Rattle.std.specs.Prelude.{◌≡◌, ◌+◌, ◌<◌, List, length, s
 ghost use Rattle.std.specs.Ordering.{is_lt};
 ghost use Rattle.plan_tree.specs.Sound.{start_cmp};
 ghost use Rattle.controller_machine.specs.declared.ctl.Played.{Played as Entry};
-ghost use Rattle.timeline_board.specs.Order.{logs_of, play_key};
+ghost use Rattle.controller_machine.specs.Log.{play_key};
+ghost use Rattle.timeline_board.specs.Order.{logs_of};
 ghost use Rattle.timeline_board.specs.Merging.{IsFirstOf, lefts_of};
 
 use controller_machine::{Ctls, Played};

@@ -13,7 +13,7 @@ mod reports;
 mod tests;
 mod timeline;
 
-pub use laws::{merge_orders, report_is_run};
+pub use laws::{merge_is_timeline, merge_orders, report_is_run};
 pub use merging::Merge;
 pub use refusals::refused;
 pub use reports::report;
