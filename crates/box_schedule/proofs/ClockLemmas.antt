@@ -1,11 +1,11 @@
 -- One clock per qubit tells when an operation may begin.
-use Rattle.std.proofs.Common.{◌≡◌, ℕ, suc, ◌+◌, ◌<◌, ◌≤◌, max, List, [], ◌∷◌, ◌++◌, length, Bool, true, false, ◌||◌, inl, inr, nat_eq, if◌then◌else◌, slice_index, refl, ap, sym, ◌∙◌, arith}
-use Rattle.std.proofs.lemmas.Bool.{cases_Bool, or_cases, eqb-true, cond-true, cond-false}
+use Rattle.std.proofs.Common.{◌≡◌, ℕ, suc, ◌<◌, ◌≤◌, max, List, [], ◌∷◌, ◌++◌, length, Bool, true, false, ◌||◌, inl, inr, nat_eq, if◌then◌else◌, slice_index, refl, ap, sym, ◌∙◌, arith}
+use Rattle.std.proofs.lemmas.Bool.{cases_Bool, cond-true, cond-false}
 use Rattle.std.proofs.lemmas.Bool.Decides.{nat_tests}
 use Rattle.std.specs.List.{list_any}
 use Rattle.box_schedule.specs.declared.block.TOp.{TOp}
 use Rattle.box_schedule.specs.Clocks.{greatest}
-use Rattle.box_schedule.specs.Placement.{Begun, opened, shares, start_after, ticks_of}
+use Rattle.box_schedule.specs.Placement.{Begun, end_from, opened, shares, start_after}
 use Rattle.box_schedule.proofs.PlacementLemmas.{begun}
 
 -- whether the qubit is among these
@@ -14,7 +14,7 @@ is_among qubits q = list_any (nat_eq q) qubits
 
 -- the end of this operation, on a qubit that it has
 abbrev pub end_on : Begun → ℕ → ℕ
-end_on earlier q = if is_among (opened earlier.op).qubits q then earlier.start + ticks_of earlier.op else 0
+end_on earlier q = if is_among (opened earlier.op).qubits q then end_from earlier.start earlier.op else 0
 
 -- the greatest end of these operations on a qubit
 abbrev pub clock_of : List Begun → ℕ → ℕ
@@ -74,7 +74,7 @@ start_after-greatest [] op = sym (greatest-zero (opened op).qubits)
 start_after-greatest (earlier ∷ rest) op =
     let qubits : List ℕ = (opened op).qubits in
     let others : List ℕ = (opened earlier.op).qubits in
-    let ends : ℕ = earlier.start + ticks_of earlier.op in
+    let ends : ℕ = end_from earlier.start earlier.op in
     let here : greatest (end_on earlier) qubits ≡ (if list_any (is_among others) qubits then ends else 0) = greatest-if (is_among others) ends qubits in
     let both : greatest (clock_of (earlier ∷ rest)) qubits ≡ max (greatest (end_on earlier) qubits) (greatest (clock_of rest) qubits)
     = greatest-max (end_on earlier) (clock_of rest) qubits in
@@ -92,29 +92,19 @@ pub greatest-le : (f : ℕ → ℕ) (qs : List ℕ) (n : ℕ) → ((i : ℕ) →
 greatest-le f [] n below = omega arith
 greatest-le f (q ∷ qs) n below = omega (arith, below 0 (omega arith), greatest-le f qs n (λ i h. below (suc i) (omega arith)))
 
-pub le-greatest : (f : ℕ → ℕ) (qs : List ℕ) (q : ℕ) → is_among qs q ≡ true → f q ≤ greatest f qs
-le-greatest f [] q among = absurd (cc)
-le-greatest f (first ∷ qs) q among = elim (or_cases (nat_eq q first) (is_among qs q) among) [
-  | inl same ↦ omega (arith, ap f (eqb-true q first same))
-  | inr later ↦ omega (arith, le-greatest f qs q later)
-]
-
 pub clock_of-push : (done : List Begun) (last : Begun) (q : ℕ) → clock_of (done ++ last ∷ []) q ≡ max (clock_of done q) (end_on last q)
 clock_of-push [] last q = omega arith
 clock_of-push (earlier ∷ rest) last q = omega (arith, clock_of-push rest last q)
 
--- What moves the clocks of the operation's qubits to its end.
+-- What moves the clocks of the operation's qubits to its end, but none back.
 pub clock_of-begun : (done : List Begun) (op : TOp) (q : ℕ)
     → clock_of (done ++ begun done op ∷ []) q
-    ≡ (if is_among (opened op).qubits q then start_after done op + ticks_of op else clock_of done q)
+    ≡ (if is_among (opened op).qubits q then max (end_from (start_after done op) op) (clock_of done q) else clock_of done q)
 clock_of-begun done op q = elim (cases_Bool (is_among (opened op).qubits q)) [
   | inl among ↦
-      let own : end_on (begun done op) q ≡ start_after done op + ticks_of op = cond-true _ _ _ among in
-      let all : clock_of (done ++ begun done op ∷ []) q ≡ max (clock_of done q) (end_on (begun done op) q) = clock_of-push done (begun done op) q in
-      let below : clock_of done q ≤ greatest (clock_of done) (opened op).qubits = le-greatest (clock_of done) (opened op).qubits q among in
-      rw among (omega (arith, start_after-greatest done op))
+      let own : end_on (begun done op) q ≡ end_from (start_after done op) op = cond-true _ _ _ among in
+      rw among (omega (arith, clock_of-push done (begun done op) q))
   | inr absent ↦
       let own : end_on (begun done op) q ≡ 0 = cond-false _ _ _ absent in
-      let all : clock_of (done ++ begun done op ∷ []) q ≡ max (clock_of done q) (end_on (begun done op) q) = clock_of-push done (begun done op) q in
-      rw absent (omega arith)
+      rw absent (omega (arith, clock_of-push done (begun done op) q))
 ]

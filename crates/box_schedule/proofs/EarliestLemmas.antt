@@ -1,14 +1,15 @@
 -- The starts of a block are admissible, and nowhere later than any admissible ones.
-use Rattle.std.proofs.Common.{◌≡◌, ℕ, zero, suc, ◌+◌, ◌<◌, ◌≤◌, max, inl, inr, List, [], ◌∷◌, ◌++◌, length, true, Some, slice_get, slice_index, refl, ap, sym, subst, arith}
+use Rattle.std.proofs.Common.{◌≡◌, ℕ, zero, suc, ◌<◌, ◌≤◌, max, inl, inr, List, [], ◌∷◌, ◌++◌, length, true, Some, slice_get, slice_index, refl, ap, sym, subst, arith}
 use Rattle.std.proofs.lemmas.Bool.{cond-true, cond-false, cases_Bool}
 use Rattle.box_schedule.specs.declared.block.TOp.{TOp}
-use Rattle.box_schedule.specs.Placement.{Begun, shares, end_for, start_after, starts_behind, starts_of, ticks_of, IsEarliest}
+use Rattle.box_schedule.specs.Placement.{Begun, shares, end_for, start_after, starts_behind, starts_of, end_from, IsEarliest}
 use Rattle.box_schedule.proofs.PlacementLemmas.{begun, length-starts_behind}
+use Rattle.box_schedule.proofs.EndLemmas.{end_from-le}
 
 -- No operation begins before an earlier one on its qubits has ended.
 abbrev AreApart : List TOp → List ℕ → Type 0
 AreApart ops starts = (i j : ℕ) (a b : TOp) → i < j → slice_get ops i ≡ Some a → slice_get ops j ≡ Some b → shares a b ≡ true
-    → slice_index starts i + ticks_of a ≤ slice_index starts j
+    → end_from (slice_index starts i) a ≤ slice_index starts j
 
 start_after-push : (earlier : List Begun) (last : Begun) (op : TOp) → start_after (earlier ++ last ∷ []) op ≡ max (start_after earlier op) (end_for op last)
 start_after-push [] last op = omega arith
@@ -30,16 +31,16 @@ starts_behind-apart earlier (first ∷ ops) (suc i) zero a b before is_a is_b sh
 starts_behind-apart earlier (first ∷ ops) zero (suc j) a b before is_a is_b shared =
     let same : first ≡ a = cc in
     let meets : shares first b ≡ true = cc in
-    let ends : end_for b (begun earlier first) ≡ start_after earlier first + ticks_of first = cond-true _ _ _ meets in
-    omega (arith, ap ticks_of same, start_after-push earlier (begun earlier first) b, start_after-starts_behind (earlier ++ begun earlier first ∷ []) ops j b is_b)
+    let ends : end_for b (begun earlier first) ≡ end_from (start_after earlier first) first = cond-true _ _ _ meets in
+    omega (arith, ap (end_from (start_after earlier first)) same, start_after-push earlier (begun earlier first) b, start_after-starts_behind (earlier ++ begun earlier first ∷ []) ops j b is_b)
 starts_behind-apart earlier (first ∷ ops) (suc i) (suc j) a b before is_a is_b shared =
     starts_behind-apart (earlier ++ begun earlier first ∷ []) ops i j a b (omega arith) is_a is_b shared
 
 -- An operation begins no later than another one behind it that ends late enough lets it begin.
-end_for-le : (op : TOp) (first : TOp) (start n : ℕ) → (shares first op ≡ true → start + ticks_of first ≤ n) → end_for op (record { op = first; start = start }) ≤ n
+end_for-le : (op : TOp) (first : TOp) (start n : ℕ) → (shares first op ≡ true → end_from start first ≤ n) → end_for op (record { op = first; start = start }) ≤ n
 end_for-le op first start n late = elim (cases_Bool (shares first op)) [
   | inl shared ↦
-      let ends : end_for op (record { op = first; start = start }) ≡ start + ticks_of first = cond-true _ _ _ shared in
+      let ends : end_for op (record { op = first; start = start }) ≡ end_from start first = cond-true _ _ _ shared in
       omega (arith, late shared)
   | inr apart ↦
       let none : end_for op (record { op = first; start = start }) ≡ 0 = cond-false _ _ _ apart in
@@ -58,7 +59,7 @@ starts_behind-least earlier (first ∷ ops) (other ∷ others) count apart late 
     (λ j op here.
     let own : end_for op (begun earlier first) ≤ slice_index others j =
     end_for-le op first (start_after earlier first) (slice_index others j) (λ shared.
-    omega (arith, late 0 first refl, apart 0 (suc j) first op (omega arith) refl here shared)) in
+    omega (arith, end_from-le first (start_after earlier first) other (late 0 first refl), apart 0 (suc j) first op (omega arith) refl here shared)) in
     omega (arith, own, late (suc j) op here, start_after-push earlier (begun earlier first) op))
     i
 

@@ -1,3 +1,4 @@
+pub mod EndLemmas
 pub mod PlacementLemmas
 pub mod ClockLemmas
 pub mod EarliestLemmas

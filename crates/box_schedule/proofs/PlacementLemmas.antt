@@ -1,7 +1,7 @@
 -- What one more operation at the end of a block changes.
-use Rattle.std.proofs.Common.{◌≡◌, ℕ, suc, ◌+◌, max, List, [], ◌∷◌, ◌++◌, length, refl, ap, arith}
+use Rattle.std.proofs.Common.{◌≡◌, ℕ, suc, max, List, [], ◌∷◌, ◌++◌, length, refl, ap, arith}
 use Rattle.box_schedule.specs.declared.block.TOp.{TOp}
-use Rattle.box_schedule.specs.Placement.{Begun, start_after, starts_behind, starts_of, latest_end, length_of, ticks_of}
+use Rattle.box_schedule.specs.Placement.{Begun, start_after, starts_behind, starts_of, latest_end, length_of, end_from}
 
 -- the operation, begun behind these
 abbrev pub begun : List Begun → TOp → Begun
@@ -28,7 +28,7 @@ length-starts_behind earlier [] = refl
 length-starts_behind earlier (op ∷ ops) = ap suc (length-starts_behind (earlier ++ begun earlier op ∷ []) ops)
 
 pub latest_end-push : (ops : List TOp) (starts : List ℕ) (op : TOp) (start : ℕ) → length starts ≡ length ops
-    → latest_end (ops ++ op ∷ []) (starts ++ start ∷ []) ≡ max (start + ticks_of op) (latest_end ops starts)
+    → latest_end (ops ++ op ∷ []) (starts ++ start ∷ []) ≡ max (end_from start op) (latest_end ops starts)
 latest_end-push [] [] op start same = refl
 latest_end-push [] (first ∷ starts) op start same = absurd (omega arith)
 latest_end-push (first ∷ ops) [] op start same = absurd (omega arith)
@@ -36,6 +36,6 @@ latest_end-push (first ∷ ops) (at ∷ starts) op start same =
     let shorter : length starts ≡ length ops = omega arith in omega (arith, latest_end-push ops starts op start shorter)
 
 pub length_of-push : (ops : List TOp) (op : TOp)
-    → length_of (ops ++ op ∷ []) ≡ max (start_after (begun_behind [] ops) op + ticks_of op) (length_of ops)
+    → length_of (ops ++ op ∷ []) ≡ max (end_from (start_after (begun_behind [] ops) op) op) (length_of ops)
 length_of-push ops op =
     rw (starts_behind-push [] ops op) (latest_end-push ops (starts_of ops) op (start_after (begun_behind [] ops) op) (length-starts_behind [] ops))

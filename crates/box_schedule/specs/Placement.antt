@@ -1,14 +1,15 @@
 -- Least placement: each operation of a block begins as soon as the earlier ones on its qubits have ended. This project's own.
 -- It compares pairs of operations. So far lengths are constant and there are no boxes.
-use Rattle.std.specs.Prelude.{◌≡◌, ℕ, ◌+◌, ◌<◌, ◌≤◌, ◌^◌, ℤ, pos, negsuc, List, [], ◌∷◌, ◌++◌, length, max, Bool, true, nat_eq, if◌then◌else◌, slice_get, slice_index, Result, Ok, Err, Some, None, IsSomeAnd}
+use Rattle.std.specs.Prelude.{◌≡◌, ℕ, ◌<◌, ◌≤◌, ◌^◌, ℤ, pos, negsuc, ◌+ℤ◌, ◌≤ℤ◌, neg_ℤ, int_lt, List, [], ◌∷◌, ◌++◌, length, take, max, Bool, true, false, nat_eq, if◌then◌else◌, slice_get, slice_index, Result, Ok, Err, Some, None, IsSomeAnd, All}
 use Rattle.std.specs.List.{list_any}
+use Rattle.qs_values.specs.declared.span.Span.{Span}
 use Rattle.box_schedule.specs.declared.block.TOp.{TOp, out-TOp}
 use Rattle.box_schedule.specs.declared.block.TOp.TheOpen.{TOp-F}
 use Rattle.box_schedule.specs.declared.block.Placed.{Placed}
 use Rattle.box_schedule.specs.declared.refusal.BoxRefusal.{BoxRefusal}
-use Rattle.box_schedule.specs.declared.refusal.BoxRefusal.TheVariants.{TickOut, Memory}
+use Rattle.box_schedule.specs.declared.refusal.BoxRefusal.TheVariants.{TickOut, DelayNegative, Memory}
 
--- a constant number of ticks; a plain operation has none below 0
+-- a whole number, and 0 in place of one below 0
 abbrev pub natural : ℤ → ℕ
 natural (pos n) = n
 natural (negsuc n) = 0
@@ -17,9 +18,13 @@ natural (negsuc n) = 0
 abbrev pub opened : TOp → TOp-F TOp
 opened op = out-TOp op
 
--- how many ticks an operation lasts
-abbrev pub ticks_of : TOp → ℕ
-ticks_of op = natural (opened op).length.ticks
+-- the tick at which an operation ends that begins at a tick, never before 0
+abbrev pub end_from : ℕ → TOp → ℕ
+end_from start op = natural (pos start +ℤ (opened op).length.ticks)
+
+-- whether an operation lasts less than 0 ticks
+abbrev pub is_negative : TOp → Bool
+is_negative op = int_lt (opened op).length.ticks (pos 0)
 
 -- whether two operations share a qubit
 abbrev pub shares : TOp → TOp → Bool
@@ -32,7 +37,7 @@ pub record Begun : Type 0 where
 
 -- where an earlier operation lets this one begin: at its end, where they share a qubit
 abbrev pub end_for : TOp → Begun → ℕ
-end_for op earlier = if shares earlier.op op then earlier.start + ticks_of earlier.op else 0
+end_for op earlier = if shares earlier.op op then end_from earlier.start earlier.op else 0
 
 -- the greatest of 0 and these ends
 abbrev pub start_after : List Begun → TOp → ℕ
@@ -53,7 +58,7 @@ starts_of ops = starts_behind [] ops
 abbrev pub latest_end : List TOp → List ℕ → ℕ
 latest_end [] starts = 0
 latest_end (op ∷ ops) [] = 0
-latest_end (op ∷ ops) (start ∷ starts) = max (start + ticks_of op) (latest_end ops starts)
+latest_end (op ∷ ops) (start ∷ starts) = max (end_from start op) (latest_end ops starts)
 
 -- how many ticks a block lasts
 abbrev pub length_of : List TOp → ℕ
@@ -67,21 +72,32 @@ longest = 2 ^ 40
 pub record IsAdmissible (ops : List TOp) (starts : List ℕ) : Type 0 where
   pub count : length starts ≡ length ops
   pub apart : (i j : ℕ) (a b : TOp) → i < j → slice_get ops i ≡ Some a → slice_get ops j ≡ Some b → shares a b ≡ true
-      → slice_index starts i + ticks_of a ≤ slice_index starts j
+      → end_from (slice_index starts i) a ≤ slice_index starts j
 
--- The placement of a block: the least starts, or that it is too long, at its first operation.
+-- No operation lasts less than 0 ticks.
+abbrev pub NoneIsNegative : List TOp → Type 0
+NoneIsNegative ops = All (λ op. is_negative op ≡ false) ops
+
+-- The first operation that lasts less than 0 ticks stands at this place.
+pub record IsFirstNegative (ops : List TOp) (span : Span) : Type 0 where
+  pub index : ℕ
+  pub negative : IsSomeAnd (slice_get ops index) (λ op. (is_negative op ≡ true) × ((opened op).span ≡ span))
+  pub earlier : NoneIsNegative (take index ops)
+
+-- The placement of a block: the least starts, or that it is too long, at its first operation, or else its first negative one.
 abbrev pub Places : List TOp → Result Placed BoxRefusal → Type 0
-Places ops (Ok placed) = (placed.starts ≡ starts_of ops) × (placed.length ≡ length_of ops) × (length_of ops ≤ longest)
+Places ops (Ok placed) = (placed.starts ≡ starts_of ops) × (placed.length ≡ length_of ops) × (length_of ops ≤ longest) × NoneIsNegative ops
 Places ops (Err (TickOut span)) = (longest < length_of ops) × IsSomeAnd (slice_get ops 0) (λ op. (opened op).span ≡ span)
+Places ops (Err (DelayNegative span)) = (length_of ops ≤ longest) × IsFirstNegative ops span
 Places ops (Err Memory) = Unit {0}
 
 -- At each place these starts are at most those.
 abbrev pub IsEarliest : List TOp → List ℕ → Type 0
 IsEarliest ops starts = IsAdmissible ops starts × ((others : List ℕ) → IsAdmissible ops others → (i : ℕ) → slice_index starts i ≤ slice_index others i)
 
--- An operation of constant length outside boxes, which lasts from 0 to 2^32 ticks.
+-- An operation of constant length that isn't a box, which lasts from -2^32 to 2^32 ticks.
 pub record IsPlain (op : TOp) : Type 0 where
   pub parts : (opened op).length.parts ≡ []
-  pub short : (n : ℕ) × ((opened op).length.ticks ≡ pos n) × (n ≤ 2 ^ 32)
+  pub low : neg_ℤ (pos (2 ^ 32)) ≤ℤ (opened op).length.ticks
+  pub high : (opened op).length.ticks ≤ℤ pos (2 ^ 32)
   pub inner : (opened op).inner ≡ None
-  pub fixed : (opened op).fixed ≡ None

@@ -14,7 +14,7 @@ pub struct TOp {
     pub span: Span,
     /// The numbers of its qubits.
     pub qubits: List<u8>,
-    /// How many ticks it lasts; 0 for a barrier, and not read at a box.
+    /// How many ticks it lasts; 0 for a barrier, and not read at a box. Below 0 it is refused.
     pub length: Affine,
     /// The operations of a box, and `None` for anything else.
     pub inner: Option<List<TOp>>,

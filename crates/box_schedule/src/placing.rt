@@ -1,11 +1,11 @@
-ghost use Rattle.std.specs.Prelude.{◌≡◌, ℕ, ◌+◌, ◌<◌, ◌≤◌, ◌^◌, All, length, slice_index, nat_eq, if◌then◌else◌, IfOk};
+ghost use Rattle.std.specs.Prelude.{◌≡◌, ℕ, ◌<◌, ◌≤◌, ◌^◌, All, length, max, MatchOption, slice_index, nat_eq, if◌then◌else◌, IfOk};
 ghost use Rattle.std.specs.List.{list_any};
 ghost use Rattle.box_schedule.specs.Clocks.{greatest};
-ghost use Rattle.box_schedule.specs.Placement.{IsEarliest, IsPlain, Places, length_of, starts_of, ticks_of};
+ghost use Rattle.box_schedule.specs.Placement.{IsEarliest, IsFirstNegative, IsPlain, NoneIsNegative, Places, length_of, starts_of};
 
 use crate::block::{Placed, TBlock, TOp};
 use crate::refusal::BoxRefusal;
-use qs_values::List;
+use qs_values::{List, Span};
 use std::alloc::{AllocError, Global};
 
 /// How many qubits have a clock: as many as a `u8` tells apart.
@@ -15,10 +15,11 @@ const QUBITS: usize = 256;
 const LONGEST: u64 = 1 << 40;
 
 /// When the operations of a block begin: each as soon as the earlier ones on its qubits have ended, and no
-/// earlier start is possible at any of them. Lengths are constant so far, from 0 to 2^32 ticks, so `values`,
-/// the value in ticks of each stretch by its number, isn't read yet.
+/// earlier start is possible at any of them. Lengths are constant so far, from -2^32 to 2^32 ticks, so `values`,
+/// the value in ticks of each stretch by its number, isn't read yet. No operation ends before tick 0.
 ///
-/// Refused with `TickOut`, at the first operation, where the block lasts longer than 2^40 ticks.
+/// Refused with `TickOut`, at the first operation, where the block lasts longer than 2^40 ticks, or else with
+/// `DelayNegative` at the first operation that lasts less than 0 ticks: refusals go by place, then by code.
 pub fn schedule(alloc: Global, block: &TBlock, values: &List<u64>) -> Result<Placed, BoxRefusal>
     requires plain { All IsPlain block.now.ops }
     requires count { length block.now.ops ≤ 2 ^ 24 }
@@ -29,8 +30,23 @@ pub fn schedule(alloc: Global, block: &TBlock, values: &List<u64>) -> Result<Pla
     let placed = place(alloc, ops)?;
     match ops.first() {
         Some(first) if placed.length > LONGEST => Err(BoxRefusal::TickOut { span: first.span }),
-        _ => Ok(placed),
+        _ => match first_negative(ops) {
+            Some(span) => Err(BoxRefusal::DelayNegative { span }),
+            None => Ok(placed),
+        },
     }
+}
+
+/// Where the first operation stands that lasts less than 0 ticks.
+fn first_negative(ops: &[TOp]) -> Option<Span>
+    ensures { MatchOption result (NoneIsNegative ops.now) (IsFirstNegative ops.now) }
+{
+    for op in ops {
+        if op.length.ticks < 0 {
+            return Some(op.span);
+        }
+    }
+    None
 }
 
 /// The starts of these operations and the greatest end, with one clock per qubit.
@@ -45,7 +61,8 @@ fn place(alloc: Global, ops: &[TOp]) -> Result<Placed, AllocError>
     for op in ops {
         let qubits = op.qubits.as_slice();
         let start = begin(&clocks, qubits);
-        let end = start + ticks(op);
+        // ends stay below 2^57, so a sum is cut short at tick 0 alone
+        let end = start.saturating_add_signed(op.length.ticks);
         move_clocks(&mut clocks, qubits, end);
         starts.push(start)?;
         length = end.max(length);
@@ -54,14 +71,6 @@ fn place(alloc: Global, ops: &[TOp]) -> Result<Placed, AllocError>
         length,
         starts: List::from_vec(starts),
     })
-}
-
-/// How many ticks an operation of constant length lasts.
-fn ticks(op: &TOp) -> u64
-    requires { IsPlain op.now }
-    ensures { result ≡ ticks_of op.now }
-{
-    op.length.ticks as u64
 }
 
 /// The greatest clock of these qubits, 0 without a qubit. Each qubit has a clock.
@@ -76,11 +85,12 @@ fn begin(clocks: &[u64; QUBITS], qubits: &[u8]) -> u64
     start
 }
 
-/// Moves the clocks of these qubits to the tick `end`.
+/// Moves the clocks of these qubits to the tick `end`, but none back.
 fn move_clocks(clocks: &mut [u64; QUBITS], qubits: &[u8], end: u64)
-    ensures { (q : ℕ) → q < QUBITS → slice_index clocks.new q ≡ (if list_any (nat_eq q) qubits.now then end else slice_index clocks.old q) }
+    ensures { (q : ℕ) → q < QUBITS → slice_index clocks.new q ≡ (if list_any (nat_eq q) qubits.now then max end (slice_index clocks.old q) else slice_index clocks.old q) }
 {
     for qubit in qubits {
-        clocks[usize::from(*qubit)] = end;
+        let clock = &mut clocks[usize::from(*qubit)];
+        *clock = end.max(*clock);
     }
 }

@@ -9,6 +9,8 @@ use std::alloc::AllocError;
 pub enum BoxRefusal {
     /// The block lasts longer than 2^40 ticks. The place is that of its first operation.
     TickOut { span: Span },
+    /// A delay lasts less than 0 ticks. The place is that of the delay.
+    DelayNegative { span: Span },
     /// Want of memory.
     Memory,
 }
@@ -20,6 +22,7 @@ impl BoxRefusal {
     {
         match self {
             BoxRefusal::TickOut { .. } => 203,
+            BoxRefusal::DelayNegative { .. } => 204,
             BoxRefusal::Memory => 0,
         }
     }

@@ -10,11 +10,18 @@ use std::test::Fail;
 /// Equal operations in a row: how many, on which qubits, and how many ticks each lasts.
 type Ops = (u32, &'static [u8], i64);
 
-/// A block, its first starts, and its length where it isn't refused.
+/// A block's length, that it is too long, or the line of its first negative operation.
+enum Answer {
+    Length(u64),
+    TooLong,
+    NegativeAt(u32),
+}
+
+/// A block, its first starts where it isn't refused, and its answer.
 struct Case {
     ops: &'static [Ops],
     starts: &'static [u64],
-    length: Option<u64>,
+    answer: Answer,
 }
 
 const UP: &[u8] = &[
@@ -29,44 +36,44 @@ const DOWN: &[u8] = &[
 
 const LONG: i64 = 1 << 32;
 
-const CASES: [Case; 18] = [
+const CASES: [Case; 31] = [
     Case {
         ops: &[],
         starts: &[],
-        length: Some(0),
+        answer: Answer::Length(0),
     },
     // one qubit, and two
     Case {
         ops: &[(1, &[0], 5), (1, &[0], 7)],
         starts: &[0, 5],
-        length: Some(12),
+        answer: Answer::Length(12),
     },
     Case {
         ops: &[(1, &[0], 5), (1, &[1], 7)],
         starts: &[0, 0],
-        length: Some(7),
+        answer: Answer::Length(7),
     },
     Case {
         ops: &[(1, &[0], 9), (1, &[1], 2), (1, &[1], 2)],
         starts: &[0, 0, 2],
-        length: Some(9),
+        answer: Answer::Length(9),
     },
     // `cx $0, $1; delay[3dt] $1; x $1;`
     Case {
         ops: &[(1, &[0, 1], 8), (1, &[1], 3), (1, &[1], 4)],
         starts: &[0, 8, 11],
-        length: Some(15),
+        answer: Answer::Length(15),
     },
     Case {
         ops: &[(1, &[0], 5), (1, &[1], 7), (1, &[0, 1], 8), (1, &[0], 1)],
         starts: &[0, 0, 7, 15],
-        length: Some(16),
+        answer: Answer::Length(16),
     },
     // a barrier, which others don't wait for
     Case {
         ops: &[(1, &[0], 5), (1, &[0, 1], 0), (1, &[1], 3), (1, &[2], 1)],
         starts: &[0, 5, 5, 0],
-        length: Some(8),
+        answer: Answer::Length(8),
     },
     // all qubits, forwards and backwards, and three in all orders
     Case {
@@ -78,7 +85,7 @@ const CASES: [Case; 18] = [
             (1, &[31], 1),
         ],
         starts: &[0, 4, 6, 9, 9],
-        length: Some(10),
+        answer: Answer::Length(10),
     },
     Case {
         ops: &[
@@ -91,68 +98,145 @@ const CASES: [Case; 18] = [
             (1, &[2, 1, 0], 1),
         ],
         starts: &[0, 9, 10, 11, 12, 13, 14],
-        length: Some(15),
+        answer: Answer::Length(15),
     },
     // the last qubit that has a number
     Case {
-        ops: &[(1, &[255], 4), (1, &[254], 2), (1, &[0, 255], 3), (1, &[0], 1), (1, &[254], 1)],
+        ops: &[
+            (1, &[255], 4),
+            (1, &[254], 2),
+            (1, &[0, 255], 3),
+            (1, &[0], 1),
+            (1, &[254], 1),
+        ],
         starts: &[0, 0, 4, 7, 2],
-        length: Some(8),
+        answer: Answer::Length(8),
     },
     // no ticks, no qubits, and a qubit twice
     Case {
         ops: &[(1, &[0], 0), (1, &[0], 0)],
         starts: &[0, 0],
-        length: Some(0),
+        answer: Answer::Length(0),
     },
     Case {
         ops: &[(1, &[0], 5), (1, &[], 3), (1, &[0], 1)],
         starts: &[0, 0, 5],
-        length: Some(6),
+        answer: Answer::Length(6),
     },
     Case {
         ops: &[(1, &[3], 5), (1, &[3, 3], 2), (1, &[3], 1)],
         starts: &[0, 5, 7],
-        length: Some(8),
+        answer: Answer::Length(8),
     },
     // 2^40 ticks, and more
     Case {
         ops: &[(256, &[0], LONG)],
         starts: &[0, 1 << 32, 1 << 33],
-        length: Some(1 << 40),
+        answer: Answer::Length(1 << 40),
     },
     Case {
         ops: &[(256, &[0], LONG), (1, &[1], 1), (1, &[0], 0)],
         starts: &[0, 1 << 32],
-        length: Some(1 << 40),
+        answer: Answer::Length(1 << 40),
     },
     Case {
         ops: &[(256, &[0], LONG), (1, &[0], 1)],
         starts: &[],
-        length: None,
+        answer: Answer::TooLong,
     },
     Case {
         ops: &[(257, &[0], LONG)],
         starts: &[],
-        length: None,
+        answer: Answer::TooLong,
     },
     Case {
         ops: &[(257, &[0], LONG), (1, &[1], 1)],
         starts: &[],
-        length: None,
+        answer: Answer::TooLong,
+    },
+    // below 0 ticks: alone, first, later, without a qubit, and two of them
+    Case {
+        ops: &[(1, &[0], -1)],
+        starts: &[],
+        answer: Answer::NegativeAt(1),
+    },
+    Case {
+        ops: &[(1, &[0], -1), (1, &[0], 5)],
+        starts: &[],
+        answer: Answer::NegativeAt(1),
+    },
+    Case {
+        ops: &[(1, &[0], 5), (1, &[1], 7), (1, &[0], -2)],
+        starts: &[],
+        answer: Answer::NegativeAt(3),
+    },
+    Case {
+        ops: &[(1, &[0], 5), (1, &[], -3), (1, &[0], 1)],
+        starts: &[],
+        answer: Answer::NegativeAt(2),
+    },
+    Case {
+        ops: &[(1, &[0], 5), (1, &[1], -2), (1, &[0], 1), (1, &[0], -4)],
+        starts: &[],
+        answer: Answer::NegativeAt(2),
+    },
+    // as far below 0 as an operation lasts, and as far above
+    Case {
+        ops: &[(1, &[0], -LONG)],
+        starts: &[],
+        answer: Answer::NegativeAt(1),
+    },
+    Case {
+        ops: &[(1, &[0], LONG), (1, &[0], -LONG), (1, &[1], LONG)],
+        starts: &[],
+        answer: Answer::NegativeAt(2),
+    },
+    Case {
+        ops: &[(1, &[0], LONG)],
+        starts: &[0],
+        answer: Answer::Length(1 << 32),
+    },
+    // below 0 ticks and 2^40, and more
+    Case {
+        ops: &[(256, &[0], LONG), (1, &[1], -1)],
+        starts: &[],
+        answer: Answer::NegativeAt(257),
+    },
+    Case {
+        ops: &[(256, &[0], LONG), (1, &[0], 1), (1, &[0], -1)],
+        starts: &[],
+        answer: Answer::TooLong,
+    },
+    Case {
+        ops: &[(1, &[0], -1), (257, &[0], LONG)],
+        starts: &[],
+        answer: Answer::TooLong,
+    },
+    // an end before an earlier one, which a later start doesn't forget
+    Case {
+        ops: &[(255, &[0], LONG), (1, &[0], -LONG), (1, &[0], LONG)],
+        starts: &[],
+        answer: Answer::NegativeAt(256),
+    },
+    Case {
+        ops: &[(255, &[0], LONG), (1, &[0], -LONG), (2, &[0], LONG)],
+        starts: &[],
+        answer: Answer::TooLong,
     },
 ];
 
+/// An operation that isn't a box, which reads no stated length.
 fn make_op(
     rt: &impl Abort,
     alloc: Global,
     line: u32,
     qubits: &[u8],
     ticks: i64,
+    fixed: Option<u64>,
 ) -> Result<TOp, AllocError>
     ensures { IfOk result IsPlain }
 {
-    assert!(rt; 0 <= ticks && ticks <= LONG);
+    assert!(rt; -LONG <= ticks && ticks <= LONG);
     Ok(TOp {
         span: Span { line, col: 1 },
         qubits: List::from_vec(Vec::from_slice(alloc, qubits)?),
@@ -161,7 +245,7 @@ fn make_op(
             parts: List::new(alloc),
         },
         inner: None,
-        fixed: None,
+        fixed,
         barrier: ticks == 0,
     })
 }
@@ -172,6 +256,7 @@ fn add_ops(
     alloc: Global,
     ops: &mut Vec<TOp>,
     group: &Ops,
+    fixed: Option<u64>,
 ) -> Result<(), AllocError>
     requires { All IsPlain ops.old.items }
     ensures { OnOk result (All IsPlain ops.new.items) }
@@ -180,18 +265,23 @@ fn add_ops(
     for _ in 0..times {
         assert!(rt; ops.len() < 1 << 24);
         let line = ops.len() as u32 + 1;
-        ops.push(make_op(rt, alloc, line, qubits, ticks)?)?;
+        ops.push(make_op(rt, alloc, line, qubits, ticks, fixed)?)?;
     }
     Ok(())
 }
 
-fn make_block(rt: &impl Abort, alloc: Global, groups: &[Ops]) -> Result<TBlock, AllocError>
+fn make_block(
+    rt: &impl Abort,
+    alloc: Global,
+    groups: &[Ops],
+    fixed: Option<u64>,
+) -> Result<TBlock, AllocError>
     ensures plain { IfOk result (λ block. All IsPlain block.ops) }
     ensures count { IfOk result (λ block. length block.ops ≤ 2 ^ 24) }
 {
     let mut ops = Vec::new(alloc);
     for group in groups {
-        add_ops(rt, alloc, &mut ops, group)?;
+        add_ops(rt, alloc, &mut ops, group, fixed)?;
     }
     assert!(rt; ops.len() <= 1 << 24);
     Ok(TBlock {
@@ -199,29 +289,59 @@ fn make_block(rt: &impl Abort, alloc: Global, groups: &[Ops]) -> Result<TBlock, 
     })
 }
 
+/// The length or the refusal of an answer. An operation stands at the head of its line.
+fn wanted(answer: &Answer) -> Result<u64, BoxRefusal> {
+    match answer {
+        Answer::Length(length) => Ok(*length),
+        Answer::TooLong => Err(BoxRefusal::TickOut {
+            span: Span { line: 1, col: 1 },
+        }),
+        Answer::NegativeAt(line) => Err(BoxRefusal::DelayNegative {
+            span: Span {
+                line: *line,
+                col: 1,
+            },
+        }),
+    }
+}
+
+/// Schedules a block whose operations all state this length, or none.
+fn answers(
+    rt: &impl Abort,
+    alloc: Global,
+    name: usize,
+    case: &Case,
+    fixed: Option<u64>,
+) -> Result<(), Fail> {
+    let block = make_block(rt, alloc, case.ops, fixed)?;
+    let answer = wanted(&case.answer);
+    match schedule(alloc, &block, &List::new(alloc)) {
+        Ok(placed) => {
+            assert_eq!(rt; placed.starts.len(), block.ops.len(), "case {name}");
+            assert!(rt;
+                placed.starts.as_slice().starts_with(case.starts),
+                "case {name}"
+            );
+            assert_eq!(rt; Ok(placed.length), answer, "case {name}");
+        }
+        Err(refusal) => assert_eq!(rt; Err(refusal), answer, "case {name}"),
+    }
+    Ok(())
+}
+
 #[test]
 fn places_each_operation(rt: HostRuntime) -> Result<(), Fail> {
-    let values = List::new(rt.alloc());
-    let refusal = BoxRefusal::TickOut {
-        span: Span { line: 1, col: 1 },
-    };
-    assert_eq!(rt; refusal.code(), 203);
     for (i, case) in CASES.iter().enumerate() {
-        let block = make_block(&rt, rt.alloc(), case.ops)?;
-        match schedule(rt.alloc(), &block, &values) {
-            Ok(placed) => {
-                assert_eq!(rt; placed.starts.len(), block.ops.len(), "case {i}");
-                assert!(rt;
-                    placed.starts.as_slice().starts_with(case.starts),
-                    "case {i}"
-                );
-                assert_eq!(rt; Some(placed.length), case.length, "case {i}");
-            }
-            Err(answer) => {
-                assert_eq!(rt; answer, refusal, "case {i}");
-                assert_eq!(rt; None, case.length, "case {i}");
-            }
-        }
+        answers(&rt, rt.alloc(), i, case, None)?;
+        answers(&rt, rt.alloc(), i, case, Some(LONG as u64))?;
     }
+    Ok(())
+}
+
+#[test]
+fn numbers_each_refusal(rt: HostRuntime) -> Result<(), Fail> {
+    let span = Span { line: 1, col: 1 };
+    assert_eq!(rt; BoxRefusal::TickOut { span }.code(), 203);
+    assert_eq!(rt; BoxRefusal::DelayNegative { span }.code(), 204);
     Ok(())
 }
