@@ -2,7 +2,9 @@
 use Rattle.std.proofs.Common.{◌≡◌, ℕ, ◌<◌, Bool, true, false, ◌&&◌, ◌||◌, nat_eq, refl, arith, sym, ◌∙◌, true≢false}
 use Rattle.std.proofs.lemmas.Bool.{agree_below_at, false_from_ne_true, and_from, or_parts}
 use Rattle.std.proofs.lemmas.Bool.Decides.{nat_tests}
+use Rattle.std.specs.Char.{is_ascii_alphabetic}
 use Rattle.qs_values.specs.Names.{begins_word}
+use Rattle.qs_values.proofs.AsciiWords.{begins_word-ascii}
 use Rattle.qs_lexer.specs.declared.state.State.TheVariants.{Word}
 use Rattle.qs_lexer.specs.Forms.{is_blank, is_decimal_digit}
 use Rattle.qs_lexer.specs.Scan.{at_start, is_one_sign}
@@ -11,12 +13,18 @@ use Rattle.qs_lexer.specs.Scan.{at_start, is_one_sign}
 abbrev begins_other : ℕ → Bool
 begins_other c = is_blank c || (nat_eq c 47 || (nat_eq c 64 || (nat_eq c 35 || (nat_eq c 36 || (nat_eq c 34 || (nat_eq c 48 || (nat_eq c 46 || (is_decimal_digit c || is_one_sign c))))))))
 
+-- of ASCII, the characters that begin a word
+abbrev begins_letter : ℕ → Bool
+begins_letter c = nat_eq c 95 || is_ascii_alphabetic c
+
 below_of_other : (c : ℕ) → begins_other c ≡ true → c < 128
 below_of_other c h = grind (arith, nat_tests)
 
 word_or_other : (c : ℕ) → begins_word c ≡ true → begins_other c ≡ false
 word_or_other c word = false_from_ne_true (begins_other c) (λ other.
-    true≢false (sym (and_from (begins_word c) (begins_other c) word other) ∙ agree_below_at (λ d. begins_word d && begins_other d) (λ d. false) 128 c refl (below_of_other c other)))
+    let below = below_of_other c other in
+    let letter : begins_letter c ≡ true = sym (begins_word-ascii c below) ∙ word in
+    true≢false (sym (and_from (begins_letter c) (begins_other c) letter other) ∙ agree_below_at (λ d. begins_letter d && begins_other d) (λ d. false) 128 c refl below))
 
 -- a word's first character, unless it begins a pragma
 pub word_starts : (first : Bool) (c : ℕ) → begins_word c ≡ true → (nat_eq c 112 && first) ≡ false → at_start first c ≡ Word
