@@ -28,6 +28,7 @@ abbrev pub has_end : List ℕ → Bool
 has_end [] = false
 has_end (c ∷ cs) = (nat_eq c 42 && begins (nat_eq 47) cs) || has_end cs
 
+-- a gap of one character: a blank, a tab, a line feed or a carriage return
 abbrev pub IsBlank : List ℕ → Type 0
 IsBlank t = (c : ℕ) × (t ≡ c ∷ []) × IsTrue (is_blank c)
 
@@ -53,6 +54,7 @@ IsPragma first t after =
     IsTrue first × (word : List ℕ) × (line : List ℕ) × (t ≡ word ++ line) × ((word ≡ codes "pragma") ⊎ (word ≡ codes "#pragma"))
     × IsTrue (list_all is_in_line line) × (begins continues_word line ≡ false) × EndsLine after
 
+-- a gap, behind which `after` stands: a blank, a comment, an annotation or a pragma
 abbrev pub IsGap : Bool → List ℕ → List ℕ → Type 0
 IsGap first t after = IsBlank t ⊎ (IsLineComment t after ⊎ (IsComment t ⊎ (IsAnnotation first t after ⊎ IsPragma first t after)))
 
@@ -62,6 +64,7 @@ IsGap first t after = IsBlank t ⊎ (IsLineComment t after ⊎ (IsComment t ⊎ 
 abbrev pub IsWord : Bool → List ℕ → Type 0
 IsWord first t = IsTrue (is_word t) × ¬ (IsTrue first × (t ≡ codes "pragma"))
 
+-- a character that may stand between the quotes of a text: none of `"` and the line feed
 abbrev pub is_in_text : ℕ → Bool
 is_in_text c = not (nat_eq c 34) && is_in_line c
 
@@ -69,6 +72,7 @@ is_in_text c = not (nat_eq c 34) && is_in_line c
 abbrev pub IsText : List ℕ → Type 0
 IsText t = (inner : List ℕ) × (t ≡ codes "\"" ++ inner ++ codes "\"") × IsTrue (list_all is_in_text inner)
 
+-- the brackets, operators and marks
 unfoldable pub signs : List (List ℕ)
 signs =
     codes "[" ∷ codes "]" ∷ codes "{" ∷ codes "}" ∷ codes "(" ∷ codes ")" ∷ codes ":" ∷ codes ";" ∷ codes "," ∷ codes "@" ∷ codes "->"
@@ -83,18 +87,23 @@ IsSign first t = IsTrue (list_any (bytes_eq t) signs) × ¬ (IsTrue first × (t 
 
 -- ---- numbers
 
+-- whether a character is one from `low` to `high`, both among them
 abbrev pub is_between : ℕ → ℕ → ℕ → Bool
 is_between low high c = nat_le low c && nat_le c high
 
+-- whether a character is one of `0` to `9`
 abbrev pub is_decimal_digit : ℕ → Bool
 is_decimal_digit c = is_between 48 57 c
 
+-- whether a character is one of `0` to `9`, `A` to `F` and `a` to `f`
 abbrev pub is_hexadecimal_digit : ℕ → Bool
 is_hexadecimal_digit c = is_decimal_digit c || is_between 65 70 c || is_between 97 102 c
 
+-- whether a character is `0` or `1`
 abbrev pub is_binary_digit : ℕ → Bool
 is_binary_digit c = is_between 48 49 c
 
+-- whether a character is one of `0` to `7`
 abbrev pub is_octal_digit : ℕ → Bool
 is_octal_digit c = is_between 48 55 c
 

@@ -25,6 +25,7 @@ use Rattle.qs_lexer.specs.Lexed.{most_tokens}
 abbrev pub letter_of_pragma : ℕ → ℕ
 letter_of_pragma n = if nat_eq n 0 then 112 else (if nat_eq n 1 then 114 else (if nat_eq n 2 then 97 else (if nat_eq n 3 then 103 else (if nat_eq n 4 then 109 else 97))))
 
+-- whether a character is a digit of a base
 abbrev pub is_digit_of : Base → ℕ → Bool
 is_digit_of Hexadecimal c = is_hexadecimal_digit c
 is_digit_of Binary c = is_binary_digit c
@@ -42,12 +43,14 @@ abbrev pub takes_equals : ℕ → Bool
 takes_equals a =
     nat_eq a 61 || nat_eq a 60 || nat_eq a 62 || nat_eq a 43 || nat_eq a 45 || nat_eq a 42 || nat_eq a 47 || nat_eq a 37 || nat_eq a 33 || nat_eq a 38 || nat_eq a 124 || nat_eq a 94
 
+-- the signs of two characters: those that end in `=`, and `->`, `>>`, `<<`, `**`, `&&` and `||`
 abbrev pub is_two_signs : ℕ → ℕ → Bool
 is_two_signs a b =
     if nat_eq b 61 then takes_equals a
     else (if nat_eq b 62 then nat_eq a 45 || nat_eq a 62
     else (if nat_eq b 60 || nat_eq b 42 || nat_eq b 38 || nat_eq b 124 then nat_eq a b else false))
 
+-- `<<=` and `>>=`, the signs of three characters
 abbrev pub is_three_signs : ℕ → ℕ → ℕ → Bool
 is_three_signs a b c = nat_eq c 61 && nat_eq a b && (nat_eq a 60 || nat_eq a 62)
 
@@ -56,6 +59,7 @@ abbrev pub ends_line : Option ℕ → Bool
 ends_line None = true
 ends_line (Some c) = nat_eq c 10
 
+-- the shape, where a piece may have it
 abbrev pub where_so : Bool → Shape → Option Shape
 where_so true shape = Some shape
 where_so false shape = None
@@ -83,11 +87,13 @@ shape_before (Exponent ended) next = where_so ended shape.Decimal
 shape_before (Ended unit) next = Some (shape.Time unit)
 shape_before _ next = None
 
+-- behind a number: `s`, which is a unit alone, or the first letter of another unit
 abbrev pub unit_begun : ℕ → State
 unit_begun c =
     if nat_eq c 100 then Half Dt else (if nat_eq c 110 then Half Ns else (if nat_eq c 117 || nat_eq c 181 || nat_eq c 956 then Half Us
     else (if nat_eq c 109 then Half Ms else (if nat_eq c 115 then Ended S else Nothing))))
 
+-- the first character of a piece
 abbrev pub at_start : Bool → ℕ → State
 at_start first c =
     if is_blank c then Blank
@@ -103,40 +109,50 @@ at_start first c =
     else (if is_one_sign c then One c
     else (if begins_word c then Word else Nothing)))))))))))
 
+-- behind `/`: a comment of either kind, or `/=`
 abbrev pub at_slash : ℕ → State
 at_slash c = if nat_eq c 47 then Line else (if nat_eq c 42 then Comment false else (if nat_eq c 61 then Two 47 61 else Nothing))
 
+-- in a comment, whose last character is a `*` or not: its end, or one more character of it
 abbrev pub at_comment : Bool → ℕ → State
 at_comment star c = if star && nat_eq c 47 then Blank else Comment (nat_eq c 42)
 
+-- behind so many letters of `pragma`, with `#` before them or not: one more of them, a longer word, or the rest of its line
 abbrev pub at_pragma : Bool → ℕ → ℕ → State
 at_pragma hash letters c =
     if nat_lt letters 6 && nat_eq c (letter_of_pragma letters) then Pragma hash (letters + 1)
     else (if continues_word c then (if hash then Nothing else Word)
     else (if nat_lt letters 6 || nat_eq c 10 then Nothing else Line))
 
+-- behind digits or a point: the letter of an exponent, or a unit
 abbrev pub at_number : ℕ → State
 at_number c = if nat_eq c 101 || nat_eq c 69 then Letter else unit_begun c
 
+-- behind decimal digits and single `_` between them: more of them, a point, or what may follow a number
 abbrev pub at_digits : Bool → ℕ → State
 at_digits ended c =
     if is_decimal_digit c then Digits true
     else (if not ended then Nothing else (if nat_eq c 95 then Digits false else (if nat_eq c 46 then Pointed else at_number c)))
 
+-- behind `0`: the letter of a base, or what may follow decimal digits
 abbrev pub at_zero : ℕ → State
 at_zero c =
     if nat_eq c 120 || nat_eq c 88 then Based Hexadecimal false
     else (if nat_eq c 98 || nat_eq c 66 then Based Binary false else (if nat_eq c 111 then Based Octal false else at_digits true c))
 
+-- behind `0`, the letter of a base, and digits: more of them
 abbrev pub at_based : Base → Bool → ℕ → State
 at_based base ended c = if is_digit_of base c then Based base true else (if ended && nat_eq c 95 then Based base false else Nothing)
 
+-- behind a point and digits: more of them, or what may follow a number
 abbrev pub at_part : Bool → ℕ → State
 at_part ended c = if is_decimal_digit c then Part true else (if not ended then Nothing else (if nat_eq c 95 then Part false else at_number c))
 
+-- behind the digits of an exponent: more of them, or a unit
 abbrev pub at_exponent : Bool → ℕ → State
 at_exponent ended c = if is_decimal_digit c then Exponent true else (if not ended then Nothing else (if nat_eq c 95 then Exponent false else unit_begun c))
 
+-- a digit, which alone may follow
 abbrev pub at_digit : State → ℕ → State
 at_digit next c = if is_decimal_digit c then next else Nothing
 
@@ -145,12 +161,15 @@ abbrev pub last_letter : TimeUnit → ℕ
 last_letter Dt = 116
 last_letter _ = 115
 
+-- behind a number and the first letter of a unit: its second letter
 abbrev pub at_half : TimeUnit → ℕ → State
 at_half unit c = if nat_eq c (last_letter unit) then Ended unit else Nothing
 
+-- in a text: the quote that ends it, or one more character of its line
 abbrev pub at_quote : ℕ → State
 at_quote c = if nat_eq c 34 then Text else (if nat_eq c 10 then Nothing else Quote)
 
+-- what a number is with one more character
 abbrev pub at_numeral : State → ℕ → State
 at_numeral Zero c = at_zero c
 at_numeral (Digits ended) c = at_digits ended c
@@ -197,6 +216,7 @@ abbrev pub later : Option Found → Option Found → Option Found
 later None before = before
 later (Some found) before = Some found
 
+-- a piece that may end here, before `behind`
 abbrev pub found_at : Option Shape → List ℕ → Option Found
 found_at None behind = None
 found_at (Some shape) behind = Some (shape, behind)

@@ -45,6 +45,7 @@ whole_value (head ∷ letter ∷ ds) = based_value (head ∷ letter ∷ ds) lett
 abbrev pub is_mantissa : ℕ → Bool
 is_mantissa c = is_decimal_digit c || nat_eq c 95 || nat_eq c 46
 
+-- the front of a number, before its exponent and its unit
 abbrev pub mantissa : List ℕ → List ℕ
 mantissa t = take_while is_mantissa t
 
@@ -52,9 +53,11 @@ mantissa t = take_while is_mantissa t
 abbrev pub behind_mantissa : List ℕ → List ℕ
 behind_mantissa t = drop (prefix_len is_mantissa t) t
 
+-- a count with one more character, which is a digit or not
 abbrev pub count_digit : ℕ → ℕ → ℕ
 count_digit n c = if is_decimal_digit c then n + 1 else n
 
+-- any character but the point
 abbrev pub is_no_point : ℕ → Bool
 is_no_point c = not (nat_eq c 46)
 
@@ -62,10 +65,11 @@ is_no_point c = not (nat_eq c 46)
 abbrev pub places : List ℕ → ℕ
 places m = fold count_digit 0 (drop (prefix_len is_no_point m) m)
 
--- the size of the exponent, and whether it stands behind a minus; a unit has no digits
+-- the size of the exponent, 0 where there is none; a unit has no digits
 abbrev pub exponent : List ℕ → ℕ
 exponent t = value_of 10 (behind_mantissa t)
 
+-- whether a minus stands before the exponent
 abbrev pub has_minus : List ℕ → Bool
 has_minus t = begins (nat_eq 45) (drop 1 (behind_mantissa t))
 

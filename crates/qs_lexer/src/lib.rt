@@ -2,6 +2,8 @@
 //! its place (OpenQASM 3.0, lexical structure, in this project's profile).
 #![tactic(auto)]
 
+#[cfg(test)]
+mod cutting;
 mod laws;
 mod lexing;
 mod place;
