@@ -1,5 +1,5 @@
 -- What holds of the ports and waveforms of a plan's events holds of those of its controllers' logs.
-use Rattle.std.proofs.Common.{◌≡◌, ℕ, ◌+◌, List, [], ◌∷◌, ◌++◌, map}
+use Rattle.std.proofs.Common.{ℕ, ◌+◌, List, [], ◌∷◌, map}
 use Rattle.std.specs.Prelude.{All, filter}
 use Rattle.std.proofs.lemmas.List.Elements.{All-nil, All-head, All-tail, All-append, All-filter, All-map, All-same, All-weaker}
 use Rattle.qs_values.specs.declared.tape.Tape.{Tape}
@@ -15,7 +15,7 @@ use Rattle.plan_tree.specs.declared.part.Item.TheVariants.{Own}
 use Rattle.plan_tree.specs.declared.part.PartStmt.{PartStmt}
 use Rattle.plan_tree.specs.Run.{start_frames}
 use Rattle.plan_tree.specs.Acts.{planned_acts}
-use Rattle.plan_tree.specs.Parts.{is_own, items_of, block_or_wait, part_stmt, part_of}
+use Rattle.plan_tree.specs.Parts.{is_own, items_of, block_or_wait, part_stmt}
 use Rattle.controller_machine.specs.declared.ctl.Played.{Played}
 use Rattle.controller_machine.specs.Log.{log_of}
 use Rattle.controller_machine.specs.Ctl.{played_of}

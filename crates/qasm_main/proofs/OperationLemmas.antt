@@ -1,7 +1,7 @@
 -- The operations of statements: what their placement takes, and where the first of them stands.
-use Rattle.std.proofs.Common.{◌≡◌, ◌<◌, ◌≤◌, ◌^◌, ◌∷◌, [], List, ℕ, All, Bool, false, true, pos, sym, ap, ◌∙◌, lit≤, arith}
+use Rattle.std.proofs.Common.{◌≡◌, ◌≤◌, ◌^◌, ◌∷◌, [], List, ℕ, All, Bool, false, true, pos, sym, ap, ◌∙◌, lit≤}
 use Rattle.std.specs.Prelude.{IsSomeAnd, slice_get}
-use Rattle.std.proofs.lemmas.List.Elements.{All-nil, All-cons, All-map, All-weaker}
+use Rattle.std.proofs.lemmas.List.Elements.{All-map, All-weaker}
 use Rattle.qs_values.specs.declared.span.Span.{Span}
 use Rattle.qs_values.specs.declared.refusal.Refusal.{Refusal}
 use Rattle.box_schedule.specs.declared.block.TOp.{TOp}

@@ -14,7 +14,7 @@ use Rattle.qs_lexer.specs.Lexed.{HasFault, Lexes, LexIs}
 use Rattle.timeline_board.specs.Refused.{name_of, names}
 use Rattle.qasm_main.specs.declared.statement.Statement.{Statement}
 use Rattle.qasm_main.specs.declared.statement.Sentence.{Sentence}
-use Rattle.qasm_main.specs.Refused.{fault_refusal, refusal_at}
+use Rattle.qasm_main.specs.Refused.{fault_refusal}
 use Rattle.qasm_main.specs.Reads.{HaltIs, IsRefused, Reads, ReadsTokens}
 use Rattle.qasm_main.specs.Source.{Part, Reading, Built, NotBuilt, IsWellFormed, statement_at, with_sentence, reading_of}
 use Rattle.qasm_main.proofs.Telling.{built-named}

@@ -1,5 +1,5 @@
 -- Reading the tokens of a statement that was spelled.
-use Rattle.std.proofs.Common.{◌≡◌, ◌≢◌, ℕ, ◌+◌, ◌-◌, ◌*◌, ◌^◌, ◌<◌, ◌≤◌, List, [], ◌∷◌, ◌++◌, All, length, map, true, false, nat_eq, nat_le, ◌&&◌, ap, sym, ◌∙◌, refl, append_assoc, inl, inr, rules, arith}
+use Rattle.std.proofs.Common.{◌≡◌, ◌≢◌, ℕ, ◌+◌, ◌-◌, ◌*◌, ◌^◌, ◌<◌, ◌≤◌, List, [], ◌∷◌, ◌++◌, All, length, true, false, nat_eq, nat_le, ◌&&◌, ap, sym, ◌∙◌, refl, append_assoc, inl, inr, rules, arith}
 use Rattle.std.specs.Prelude.{Option, Some, None, zero, suc, codes, decimal}
 use Rattle.std.specs.Int.{IsInRange}
 use Rattle.std.specs.Str.{bytes_eq}
@@ -14,9 +14,9 @@ use Rattle.std.proofs.lemmas.Str.Parse.{IsNumeralModel, IsDigitsTest, FoldsDigit
 use Rattle.qs_lexer.specs.declared.token.Token.{Token}
 use Rattle.qasm_main.specs.declared.statement.Statement.{Statement}
 use Rattle.qasm_main.specs.declared.statement.Statement.TheVariants.{X, Cx, Delay, Barrier}
-use Rattle.qasm_main.specs.Source.{IsWellFormed, Part, behind, digits_behind, first_by, longest_delay, time_by, time_of, time_at, qubit_of, qubit_at, next_qubit_at, qubits_behind, ended, statement_at, statement_by, x_at, cx_at, delay_at, barrier_at}
-use Rattle.qasm_main.specs.Spelled.{operand, operands, more_operands, texts_of, words_of}
-use Rattle.qasm_main.proofs.StatementLemmas.{digits_behind-none, qubits_behind-none, qubits_behind-some}
+use Rattle.qasm_main.specs.Source.{IsWellFormed, Part, behind, digits_behind, first_by, longest_delay, time_by, time_of, qubit_of, qubit_at, next_qubit_at, qubits_behind, ended, statement_at, statement_by, x_at, cx_at, delay_at, barrier_at}
+use Rattle.qasm_main.specs.Spelled.{operand, more_operands, texts_of, words_of}
+use Rattle.qasm_main.proofs.StatementLemmas.{qubits_behind-none, qubits_behind-some}
 
 -- digits alone
 abbrev AreDigits : List ℕ → Type 0

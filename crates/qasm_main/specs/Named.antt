@@ -1,6 +1,5 @@
 -- The ports and waveforms of a plan's pulses.
 use Rattle.std.specs.Prelude.{ℕ, All}
-use Rattle.plan_tree.specs.declared.plan.Event.{Event}
 use Rattle.plan_tree.specs.declared.plan.Deed.{Deed}
 use Rattle.plan_tree.specs.declared.plan.Deed.TheVariants.{Pulse}
 use Rattle.plan_tree.specs.declared.plan.PlanStmt.{PlanStmt}

@@ -1,5 +1,5 @@
 -- What reading a source answers. This project's own.
-use Rattle.std.specs.Prelude.{◌≡◌, ◌≢◌, ◌⊎◌, ℕ, List, [], Result, Ok, Err, Some}
+use Rattle.std.specs.Prelude.{◌≡◌, ◌≢◌, ◌⊎◌, ℕ, List, Result, Ok, Err}
 use Rattle.qs_values.specs.declared.span.Span.{Span}
 use Rattle.qs_values.specs.declared.refusal.Refusal.{Refusal}
 use Rattle.qs_values.specs.declared.refusal.Halt.{Halt}

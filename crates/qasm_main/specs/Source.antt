@@ -1,5 +1,5 @@
 -- The statements that are built so far, `x`, `cx`, `delay` and `barrier` on three qubits, as tokens (a small part of OpenQASM 3.0).
-use Rattle.std.specs.Prelude.{ℕ, ◌+◌, ◌-◌, ◌*◌, ◌<◌, ◌≤◌, ◌≢◌, List, [], ◌∷◌, ◌++◌, All, Bool, ◌&&◌, length, if◌then◌else◌, nat_eq, nat_le, Option, Some, None, codes, zero, suc}
+use Rattle.std.specs.Prelude.{ℕ, ◌+◌, ◌-◌, ◌*◌, ◌<◌, ◌≤◌, ◌≢◌, List, [], ◌∷◌, ◌++◌, All, ◌&&◌, length, if◌then◌else◌, nat_eq, nat_le, Option, Some, None, codes, zero, suc}
 use Rattle.std.specs.Str.{bytes_eq}
 use Rattle.qs_values.specs.declared.span.Span.{Span}
 use Rattle.qs_lexer.specs.declared.token.Token.{Token}

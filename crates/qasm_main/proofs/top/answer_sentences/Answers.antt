@@ -1,7 +1,5 @@
-use Rattle.std.proofs.Common.{inl, subst, sym}
-use Rattle.std.specs.Prelude.{IsSome}
-use Rattle.timeline_board.specs.Refused.{name_of}
-use Rattle.qasm_main.proofs.Telling.{tick-named, first-long}
+use Rattle.std.proofs.Common.{inl}
+use Rattle.qasm_main.proofs.Telling.{first-long}
 use Rattle.qasm_main.proofs.top.answer_sentences.Goals as goal
 
 pub tell_refusal-requires : goal.tell_refusal-requires

@@ -4,7 +4,6 @@ use Rattle.controller_core.specs.Core.{start_core, states_of}
 use Rattle.timeline_board.specs.Conditions.{AreNamed}
 use Rattle.timeline_board.specs.Order.{logs_of}
 use Rattle.timeline_board.specs.Report.{report_text}
-use Rattle.outside.specs.Sink.{PutsText}
 use Rattle.qasm_main.specs.Ran.{no_tape}
 use Rattle.qasm_main.specs.Compiled.{IsCompiled}
 use Rattle.qasm_main.specs.Report.{counts_line}
