@@ -11,7 +11,7 @@ use Rattle.box_schedule.specs.Placement.{IsPlain, natural, opened, ticks_of}
 use Rattle.qasm_main.specs.declared.statement.Statement.{Statement}
 use Rattle.qasm_main.specs.declared.statement.Statement.TheVariants.{X, Cx, Delay, Barrier}
 use Rattle.qasm_main.specs.declared.statement.Sentence.{Sentence}
-use Rattle.qasm_main.specs.Statement.{IsKnown, AreKnown}
+use Rattle.qasm_main.specs.Statement.{IsWellFormed, IsWellFormedSentence}
 use Rattle.qasm_main.specs.Compiled.{op_by, ops_of, tick_out_at, timed}
 
 -- ---- the fields of an operation of a statement
@@ -69,17 +69,17 @@ plain_timed span qubits ticks barrier short =
       fixed = ap (λ (op : TOp-F TOp). op.fixed) (out-roll-TOp _);
     }
 
-plain_by : (span : Span) (x : Statement) → IsKnown x → IsPlain (op_by span x)
-plain_by span (X q) known = plain_timed span (q ∷ []) 4 false (lit≤ tt)
-plain_by span (Cx a b) known = plain_timed span (a ∷ b ∷ []) 8 false (lit≤ tt)
-plain_by span (Delay ticks q) known = plain_timed span (q ∷ []) ticks false known.0
-plain_by span (Barrier qubits) known = plain_timed span qubits 0 true (lit≤ tt)
+plain_by : (span : Span) (x : Statement) → IsWellFormed x → IsPlain (op_by span x)
+plain_by span (X q) formed = plain_timed span (q ∷ []) 4 false (lit≤ tt)
+plain_by span (Cx a b) formed = plain_timed span (a ∷ b ∷ []) 8 false (lit≤ tt)
+plain_by span (Delay ticks q) formed = plain_timed span (q ∷ []) ticks false formed.0
+plain_by span (Barrier qubits) formed = plain_timed span qubits 0 true (lit≤ tt)
 
--- What is known of the statements is what the placement takes.
-pub plain_ops : (sentences : List Sentence) → All AreKnown sentences → All IsPlain (ops_of sentences)
-plain_ops sentences known =
+-- Well-formed statements are what the placement takes.
+pub plain_ops : (sentences : List Sentence) → All IsWellFormedSentence sentences → All IsPlain (ops_of sentences)
+plain_ops sentences formed =
     All-map IsPlain (λ s. op_by s.span s.statement) sentences
-    (All-weaker AreKnown (λ s. IsPlain (op_by s.span s.statement)) (λ s h. plain_by s.span s.statement h) sentences known)
+    (All-weaker IsWellFormedSentence (λ s. IsPlain (op_by s.span s.statement)) (λ s h. plain_by s.span s.statement h) sentences formed)
 
 -- ---- the place of a refusal
 

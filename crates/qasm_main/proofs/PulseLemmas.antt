@@ -15,7 +15,7 @@ use Rattle.box_schedule.specs.Placement.{latest_end, opened, shares, ticks_of}
 use Rattle.qasm_main.specs.declared.statement.Statement.{Statement}
 use Rattle.qasm_main.specs.declared.statement.Statement.TheVariants.{X, Cx, Delay, Barrier}
 use Rattle.qasm_main.specs.declared.statement.Sentence.{Sentence}
-use Rattle.qasm_main.specs.Statement.{IsKnown, AreKnown}
+use Rattle.qasm_main.specs.Statement.{IsWellFormed, IsWellFormedSentence}
 use Rattle.qasm_main.proofs.OperationLemmas.{qubits_by, qubits-op, ticks_by, ticks-op}
 use Rattle.qasm_main.specs.Compiled.{op_by, ops_of, pulse_at, pulses_by, pulses_from, w4, w8}
 
@@ -52,18 +52,18 @@ pub record IsQubitPulse (e : Event) : Type 0 where
   pub wave : ℕ
   pub act : e.act ≡ Pulse e.port wave
 
-known_by : (start : ℕ) (x : Statement) → IsKnown x → All IsQubitPulse (pulses_by start x)
-known_by start (X q) known = one_event IsQubitPulse _ (record { port = known; wave = w4; act = refl })
-known_by start (Cx a b) known =
-    two_events IsQubitPulse _ _ (record { port = known.0; wave = w8; act = refl }) (record { port = known.1; wave = w8; act = refl })
-known_by start (Delay ticks q) known = All-nil IsQubitPulse
-known_by start (Barrier qubits) known = All-nil IsQubitPulse
+qubit_pulses_by : (start : ℕ) (x : Statement) → IsWellFormed x → All IsQubitPulse (pulses_by start x)
+qubit_pulses_by start (X q) formed = one_event IsQubitPulse _ (record { port = formed; wave = w4; act = refl })
+qubit_pulses_by start (Cx a b) formed =
+    two_events IsQubitPulse _ _ (record { port = formed.0; wave = w8; act = refl }) (record { port = formed.1; wave = w8; act = refl })
+qubit_pulses_by start (Delay ticks q) formed = All-nil IsQubitPulse
+qubit_pulses_by start (Barrier qubits) formed = All-nil IsQubitPulse
 
-pub known_pulses : (ss : List Sentence) (starts : List ℕ) → All AreKnown ss → All IsQubitPulse (pulses_from ss starts)
-known_pulses [] starts known = All-nil IsQubitPulse
-known_pulses (s ∷ ss) [] known = All-nil IsQubitPulse
-known_pulses (s ∷ ss) (start ∷ starts) known =
-    each_pulse IsQubitPulse s ss start starts (known_by start s.statement (All-head AreKnown s ss known)) (known_pulses ss starts (All-tail AreKnown s ss known))
+pub qubit_pulses : (ss : List Sentence) (starts : List ℕ) → All IsWellFormedSentence ss → All IsQubitPulse (pulses_from ss starts)
+qubit_pulses [] starts formed = All-nil IsQubitPulse
+qubit_pulses (s ∷ ss) [] formed = All-nil IsQubitPulse
+qubit_pulses (s ∷ ss) (start ∷ starts) formed =
+    each_pulse IsQubitPulse s ss start starts (qubit_pulses_by start s.statement (All-head IsWellFormedSentence s ss formed)) (qubit_pulses ss starts (All-tail IsWellFormedSentence s ss formed))
 
 length-pulses_by : (start : ℕ) (x : Statement) → length (pulses_by start x) ≤ 2
 length-pulses_by start (X q) = omega arith
@@ -147,35 +147,35 @@ apart_in_front start q wave bound rest below late apart =
     (All-weaker (λ e. e.port ≡ q → bound ≤ e.offset) (λ e. same_start (pulse_at start q wave) e ≡ false) (λ e h. begin_apart start q wave bound e below h) rest late))
     apart
 
-apart_by : (start : ℕ) (x : Statement) (rest : List Event) → IsKnown x
+apart_by : (start : ℕ) (x : Statement) (rest : List Event) → IsWellFormed x
     → ((q : ℕ) → is_among (qubits_by x) q ≡ true → All (λ e. e.port ≡ q → start + ticks_by x ≤ e.offset) rest)
     → IsDistinct same_start rest → IsDistinct same_start (pulses_by start x ++ rest)
-apart_by start (X q) rest known late apart = apart_in_front start q w4 (start + 4) rest (omega arith) (late q (same_is_among q q [] refl)) apart
-apart_by start (Cx a b) rest known late apart =
+apart_by start (X q) rest formed late apart = apart_in_front start q w4 (start + 4) rest (omega arith) (late q (same_is_among q q [] refl)) apart
+apart_by start (Cx a b) rest formed late apart =
     apart_in_front start a w8 (start + 8) (pulse_at start b w8 ∷ rest) (omega arith)
-    (All-cons (λ e. e.port ≡ a → start + 8 ≤ e.offset) (pulse_at start b w8) rest (λ same. absurd (omega (arith, known.2))) (late a (same_is_among a a (b ∷ []) refl)))
+    (All-cons (λ e. e.port ≡ a → start + 8 ≤ e.offset) (pulse_at start b w8) rest (λ same. absurd (omega (arith, formed.2))) (late a (same_is_among a a (b ∷ []) refl)))
     (apart_in_front start b w8 (start + 8) rest (omega arith) (late b (rw (same_is_among b b [] refl) (or-true (nat_eq b a)))) apart)
-apart_by start (Delay ticks q) rest known late apart = apart
-apart_by start (Barrier qubits) rest known late apart = apart
+apart_by start (Delay ticks q) rest formed late apart = apart
+apart_by start (Barrier qubits) rest formed late apart = apart
 
 -- no operation begins before an earlier one on its qubits has ended
 abbrev pub AreApart : List TOp → List ℕ → Type 0
 AreApart ops starts = (i j : ℕ) (a b : TOp) → i < j → slice_get ops i ≡ Some a → slice_get ops j ≡ Some b → shares a b ≡ true
     → slice_index starts i + ticks_of a ≤ slice_index starts j
 
-pub pulses_apart : (ss : List Sentence) (starts : List ℕ) → All AreKnown ss → AreApart (ops_of ss) starts → IsDistinct same_start (pulses_from ss starts)
+pub pulses_apart : (ss : List Sentence) (starts : List ℕ) → All IsWellFormedSentence ss → AreApart (ops_of ss) starts → IsDistinct same_start (pulses_from ss starts)
 unfolding IsDistinct
-pulses_apart [] starts known apart = tt
-pulses_apart (s ∷ ss) [] known apart = tt
-pulses_apart (s ∷ ss) (start ∷ starts) known apart =
+pulses_apart [] starts formed apart = tt
+pulses_apart (s ∷ ss) [] formed apart = tt
+pulses_apart (s ∷ ss) (start ∷ starts) formed apart =
     let first : TOp = op_by s.span s.statement in
     let own : (opened first).qubits ≡ qubits_by s.statement = qubits-op s.span s.statement in
     let lasts : ticks_of first ≡ ticks_by s.statement = ticks-op s.span s.statement in
-    apart_by start s.statement (pulses_from ss starts) (All-head AreKnown s ss known)
+    apart_by start s.statement (pulses_from ss starts) (All-head IsWellFormedSentence s ss formed)
     (λ q among. late_from q (start + ticks_by s.statement) ss starts (λ j b is among_b.
     let meets : shares first b ≡ true = shared (opened first).qubits (opened b).qubits q (rw own among) among_b in
     omega (arith, apart 0 (suc j) first b (omega arith) refl is meets)))
-    (pulses_apart ss starts (All-tail AreKnown s ss known) (λ i j a b before is_a is_b both. apart (suc i) (suc j) a b (omega arith) is_a is_b both))
+    (pulses_apart ss starts (All-tail IsWellFormedSentence s ss formed) (λ i j a b before is_a is_b both. apart (suc i) (suc j) a b (omega arith) is_a is_b both))
 
 pub same_start_flips : (d e : Event) → same_start d e ≡ same_start e d
 same_start_flips d e = grind (arith, nat_tests)

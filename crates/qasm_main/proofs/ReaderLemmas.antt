@@ -16,7 +16,8 @@ use Rattle.qasm_main.specs.declared.statement.Statement.{Statement}
 use Rattle.qasm_main.specs.declared.statement.Sentence.{Sentence}
 use Rattle.qasm_main.specs.Refused.{fault_refusal}
 use Rattle.qasm_main.specs.Reads.{HaltIs, IsRefused, Reads, ReadsTokens}
-use Rattle.qasm_main.specs.Source.{Part, Reading, Built, NotBuilt, IsWellFormed, statement_at, with_sentence, reading_of}
+use Rattle.qasm_main.specs.Source.{Part, Reading, Built, NotBuilt, statement_at, with_sentence, reading_of}
+use Rattle.qasm_main.specs.Statement.{IsWellFormed, IsWellFormedSentence}
 use Rattle.qasm_main.proofs.Telling.{built-named}
 
 -- a reading behind these sentences
@@ -39,7 +40,7 @@ with_sentences-not_built (t ∷ ss) place = ap (with_sentence t) (with_sentences
 -- these sentences were read, and so many more may be read of what is left
 pub record SoFar (most left : ℕ) (tokens : List Token) (sentences : List Sentence) (rest : List Token) : Type 0 where
   pub same : with_sentences sentences (reading_of left rest) ≡ reading_of most tokens
-  pub formed : All (λ s. IsWellFormed s.statement) sentences
+  pub formed : All IsWellFormedSentence sentences
   pub few : length sentences + left ≤ most
 
 pub empty : (tokens : List Token) → length tokens ≡ 0 → tokens ≡ []
@@ -77,10 +78,9 @@ reads-most {most} {left} {tokens} {sentences} {rest} so_far first others is none
     ∙ ap (λ n. with_sentences sentences (reading_of n (first ∷ others))) none ∙ with_sentences-not_built sentences first.span
 
 -- all are well formed with one more that is
-all_formed : (sentences : List Sentence) (s : Sentence) (longer : List Sentence) → longer ≡ sentences ++ s ∷ [] → All (λ t. IsWellFormed t.statement) sentences → IsWellFormed s.statement → All (λ t. IsWellFormed t.statement) longer
+all_formed : (sentences : List Sentence) (s : Sentence) (longer : List Sentence) → longer ≡ sentences ++ s ∷ [] → All IsWellFormedSentence sentences → IsWellFormed s.statement → All IsWellFormedSentence longer
 all_formed sentences s longer pushed all formed =
-    let is_formed : Sentence → Type 0 = λ t. IsWellFormed t.statement in
-    subst (All is_formed) (sym pushed) (All-push is_formed sentences s all formed)
+    subst (All IsWellFormedSentence) (sym pushed) (All-push IsWellFormedSentence sentences s all formed)
 
 -- one sentence more
 pub one-more : {most left : ℕ} {tokens : List Token} {sentences : List Sentence} {rest : List Token} → SoFar most left tokens sentences rest → (first : Token) (others : List Token)

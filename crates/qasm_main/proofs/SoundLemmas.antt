@@ -16,9 +16,9 @@ use Rattle.plan_tree.proofs.DeedLemmas.{apart-plays}
 use Rattle.box_schedule.specs.Placement.{IsAdmissible, length_of, longest, starts_of}
 use Rattle.qasm_main.specs.declared.statement.Sentence.{Sentence}
 use Rattle.qs_machine.specs.BuiltIn.{built_in}
-use Rattle.qasm_main.specs.Statement.{AreKnown}
+use Rattle.qasm_main.specs.Statement.{IsWellFormedSentence}
 use Rattle.qasm_main.specs.Compiled.{IsBlockOf, IsBodyBy, IsPlanOf, is_left_out, ops_of, owners_of, pulses_of}
-use Rattle.qasm_main.proofs.PulseLemmas.{IsQubitPulse, known_pulses, length-pulses_from, begin_before_end, pulses_apart, same_start_flips}
+use Rattle.qasm_main.proofs.PulseLemmas.{IsQubitPulse, qubit_pulses, length-pulses_from, begin_before_end, pulses_apart, same_start_flips}
 
 frame_of : (port : ℕ) → port < 3 → IsSomeAnd (slice_get built_in.frames port) (λ s. s.port ≡ port)
 frame_of zero h = refl
@@ -36,9 +36,9 @@ sound_event plan ticks e framed owned known below =
       act = subst IsSoundAct (sym known.act) (subst HasFrame (sym framed) (frame_of e.port known.port), below);
     }
 
--- what is known of statements that are planned: their placement is admissible and not too long
+-- what holds of statements that are planned: they are well formed, and their placement is admissible and not too long
 pub record ArePlanned (sentences : List Sentence) : Type 0 where
-  pub known : All AreKnown sentences
+  pub formed : All IsWellFormedSentence sentences
   pub few : length sentences ≤ 65536
   pub short : length_of (ops_of sentences) ≤ longest
   pub admissible : IsAdmissible (ops_of sentences) (starts_of (ops_of sentences))
@@ -47,7 +47,7 @@ sound_block : (sentences : List Sentence) (plan : Plan) (b : Block-) → ArePlan
     → IsBlockOf sentences b → IsSoundBlock plan b
 sound_block sentences plan b planned framed owned block =
     let starts : List ℕ = starts_of (ops_of sentences) in
-    let known : All IsQubitPulse b.events = All-permutation IsQubitPulse _ _ block.events (known_pulses sentences starts planned.known) in
+    let known : All IsQubitPulse b.events = All-permutation IsQubitPulse _ _ block.events (qubit_pulses sentences starts planned.formed) in
     let early : All (λ e. e.offset < length_of (ops_of sentences)) b.events =
     All-permutation (λ e. e.offset < length_of (ops_of sentences)) _ _ block.events (begin_before_end sentences starts) in
     record {
@@ -55,7 +55,7 @@ sound_block sentences plan b planned framed owned block =
       events = λ k d h. sound_event plan b.length _ framed owned (known k d h) (omega (arith, block.ticks, early k d h));
       order = block.order;
       apart = apart-plays b.events (IsDistinct-IsPermutation same_start same_start_flips _ _ block.events
-          (pulses_apart sentences starts planned.known planned.admissible.apart));
+          (pulses_apart sentences starts planned.formed planned.admissible.apart));
     }
 
 sound_body : (sentences : List Sentence) (plan : Plan) (body : List PlanStmt) (left_out : Bool) → ArePlanned sentences → plan.frames ≡ built_in.frames → plan.owner ≡ owners_of built_in.ports

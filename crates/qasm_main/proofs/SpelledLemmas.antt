@@ -5,7 +5,8 @@ use Rattle.qs_lexer.specs.declared.token.Token.{Token}
 use Rattle.qasm_main.specs.declared.statement.Statement.{Statement}
 use Rattle.qasm_main.specs.declared.statement.Statement.TheVariants.{X, Cx, Delay, Barrier}
 use Rattle.qasm_main.specs.declared.statement.Sentence.{Sentence}
-use Rattle.qasm_main.specs.Source.{Built, IsWellFormed, with_sentence, reading_of, statement_at}
+use Rattle.qasm_main.specs.Source.{Built, with_sentence, reading_of, statement_at}
+use Rattle.qasm_main.specs.Statement.{IsWellFormed}
 use Rattle.qasm_main.specs.Spelled.{SpelledIsRead, spelled, texts_of, words_of}
 use Rattle.qasm_main.proofs.ReaderLemmas.{reading_of-some}
 use Rattle.qasm_main.proofs.SpelledWords.{statement-text}

@@ -14,7 +14,8 @@ use Rattle.std.proofs.lemmas.Str.Parse.{IsNumeralModel, IsDigitsTest, FoldsDigit
 use Rattle.qs_lexer.specs.declared.token.Token.{Token}
 use Rattle.qasm_main.specs.declared.statement.Statement.{Statement}
 use Rattle.qasm_main.specs.declared.statement.Statement.TheVariants.{X, Cx, Delay, Barrier}
-use Rattle.qasm_main.specs.Source.{IsWellFormed, Part, behind, digits_behind, first_by, longest_delay, time_by, time_of, qubit_of, qubit_at, next_qubit_at, qubits_behind, ended, statement_at, statement_by, x_at, cx_at, delay_at, barrier_at}
+use Rattle.qasm_main.specs.Source.{Part, behind, digits_behind, first_by, time_by, time_of, qubit_of, qubit_at, next_qubit_at, qubits_behind, ended, statement_at, statement_by, x_at, cx_at, delay_at, barrier_at}
+use Rattle.qasm_main.specs.Statement.{IsWellFormed, longest_delay}
 use Rattle.qasm_main.specs.Spelled.{operand, more_operands, texts_of, words_of}
 use Rattle.qasm_main.proofs.StatementLemmas.{qubits_behind-none, qubits_behind-some}
 

@@ -1,5 +1,5 @@
 -- Which text is told, and with which status.
-use Rattle.std.proofs.Common.{◌≡◌, ℕ, List, [], ◌∷◌, ◌++◌, All, refl, sym, ap, ◌∙◌, subst, false, arith}
+use Rattle.std.proofs.Common.{◌≡◌, ℕ, List, [], ◌∷◌, ◌++◌, refl, sym, ap, ◌∙◌, subst, false}
 use Rattle.std.specs.Prelude.{IsSome, IsSomeAnd, Result, Ok, Err, slice_get}
 use Rattle.qs_values.specs.declared.refusal.Refusal.{Refusal}
 use Rattle.outside.specs.declared.sink.PutFailed.{PutFailed}
@@ -8,11 +8,7 @@ use Rattle.outside.specs.Text.{Waiting, IsAt, GoesOn}
 use Rattle.outside.proofs.Texts.{put-none, stops-behind, stops-more, with_text-append}
 use Rattle.plan_tree.specs.Run.{Outcome, Done}
 use Rattle.timeline_board.specs.Refused.{name_of, names}
-use Rattle.qasm_main.specs.declared.statement.Statement.{Statement}
-use Rattle.qasm_main.specs.declared.statement.Statement.TheVariants.{X, Cx, Delay, Barrier}
 use Rattle.qasm_main.specs.declared.statement.Sentence.{Sentence}
-use Rattle.qasm_main.specs.Source.{IsWellFormed}
-use Rattle.qasm_main.specs.Statement.{AreKnown, IsKnown}
 use Rattle.qasm_main.specs.Compiled.{tick_out_at}
 use Rattle.qasm_main.specs.Answer.{Finishes, status_by}
 
@@ -48,16 +44,6 @@ long-named = refl
 pub tick-named : IsSome (name_of 203)
 unfolding names
 tick-named = refl
-
--- Statements that were read are those that are known.
-known-by : (s : Statement) → IsWellFormed s → IsKnown s
-known-by (X q) h = h
-known-by (Cx a b) h = h
-known-by (Delay ticks q) h = (omega (arith, h.0), h.1)
-known-by (Barrier qubits) h = h.1
-
-pub are-known : (sentences : List Sentence) → All (λ s. IsWellFormed s.statement) sentences → All AreKnown sentences
-are-known sentences formed k d h = known-by _ (formed k d h)
 
 -- the refusal of a block that is too long has a named code
 pub first-long : (sentences : List Sentence) (refusal : Refusal) → IsSomeAnd (slice_get sentences 0) (λ s. refusal ≡ tick_out_at s.span) → IsSome (name_of refusal.code)

@@ -1,11 +1,12 @@
 -- The statements that are built so far, `x`, `cx`, `delay` and `barrier` on three qubits, as tokens (a small part of OpenQASM 3.0).
-use Rattle.std.specs.Prelude.{ℕ, ◌+◌, ◌-◌, ◌*◌, ◌<◌, ◌≤◌, ◌≢◌, List, [], ◌∷◌, ◌++◌, All, ◌&&◌, length, if◌then◌else◌, nat_eq, nat_le, Option, Some, None, codes, zero, suc}
+use Rattle.std.specs.Prelude.{ℕ, ◌+◌, ◌-◌, ◌*◌, List, [], ◌∷◌, ◌++◌, ◌&&◌, length, if◌then◌else◌, nat_eq, nat_le, Option, Some, None, codes, zero, suc}
 use Rattle.std.specs.Str.{bytes_eq}
 use Rattle.qs_values.specs.declared.span.Span.{Span}
 use Rattle.qs_lexer.specs.declared.token.Token.{Token}
 use Rattle.qasm_main.specs.declared.statement.Statement.{Statement}
 use Rattle.qasm_main.specs.declared.statement.Statement.TheVariants.{X, Cx, Delay, Barrier}
 use Rattle.qasm_main.specs.declared.statement.Sentence.{Sentence}
+use Rattle.qasm_main.specs.Statement.{longest_delay}
 
 -- a value that was read, and the tokens behind it
 pub record Part (X : Type 0) : Type 0 where
@@ -33,11 +34,7 @@ digits_behind number count [] = record { number = number; count = count; rest = 
 digits_behind number count (b ∷ bs) =
     if nat_le 48 b && nat_le b 57 then digits_behind (10 * number + (b - 48)) (count + 1) bs else record { number = number; count = count; rest = b ∷ bs }
 
--- the greatest number of ticks of a delay
-abbrev pub longest_delay : ℕ
-longest_delay = 4294967296
-
--- how many digits such a number has at most
+-- how many digits the number of a delay's ticks has at most
 abbrev pub most_digits : ℕ
 most_digits = 10
 
@@ -120,13 +117,6 @@ statement_by word ts =
 unfoldable pub statement_at : List Token → Option (Part Statement)
 statement_at [] = None
 statement_at (t ∷ ts) = statement_by t.text ts
-
--- what each statement that is read meets: its qubits are the three, `cx` has two different ones, a delay is no longer than it may be, and a barrier has a qubit
-abbrev pub IsWellFormed : Statement → Type 0
-IsWellFormed (X q) = q < 3
-IsWellFormed (Cx a b) = (a < 3) × (b < 3) × (a ≢ b)
-IsWellFormed (Delay ticks q) = (ticks ≤ longest_delay) × (q < 3)
-IsWellFormed (Barrier qs) = (0 < length qs) × All (λ q. q < 3) qs
 
 -- what tokens are: statements at their places alone, or something else begins at a place
 pub data Reading : Type 0 where

@@ -4,7 +4,8 @@ use Rattle.qs_lexer.specs.declared.token.Token.{Token}
 use Rattle.qasm_main.specs.declared.statement.Statement.{Statement}
 use Rattle.qasm_main.specs.declared.statement.Statement.TheVariants.{X, Cx, Delay, Barrier}
 use Rattle.qasm_main.specs.declared.statement.Sentence.{Sentence}
-use Rattle.qasm_main.specs.Source.{Built, IsWellFormed, reading_of}
+use Rattle.qasm_main.specs.Source.{Built, reading_of}
+use Rattle.qasm_main.specs.Statement.{IsWellFormed}
 
 -- the text of a qubit below 10
 abbrev pub operand : ℕ → List ℕ

@@ -1,15 +1,20 @@
--- Statements of the language that is built.
-use Rattle.std.specs.Prelude.{◌<◌, ◌≤◌, ◌≢◌, ◌^◌, All}
+-- What holds of each statement that is built. This project's own.
+use Rattle.std.specs.Prelude.{ℕ, ◌<◌, ◌≤◌, ◌≢◌, All, length}
 use Rattle.qasm_main.specs.declared.statement.Statement.{Statement}
 use Rattle.qasm_main.specs.declared.statement.Statement.TheVariants.{X, Cx, Delay, Barrier}
 use Rattle.qasm_main.specs.declared.statement.Sentence.{Sentence}
 
--- Its qubits are those of the machine, those of `cx` differ, and a delay is at most 2^32 ticks.
-abbrev pub IsKnown : Statement → Type 0
-IsKnown (X q) = q < 3
-IsKnown (Cx a b) = (a < 3) × (b < 3) × (a ≢ b)
-IsKnown (Delay ticks q) = (ticks ≤ 2 ^ 32) × (q < 3)
-IsKnown (Barrier qubits) = All (λ q. q < 3) qubits
+-- the greatest number of ticks of a delay
+abbrev pub longest_delay : ℕ
+longest_delay = 4294967296
 
-abbrev pub AreKnown : Sentence → Type 0
-AreKnown s = IsKnown s.statement
+-- its qubits are the three, `cx` has two different ones, a delay is no longer than it may be, and a barrier has a qubit
+abbrev pub IsWellFormed : Statement → Type 0
+IsWellFormed (X q) = q < 3
+IsWellFormed (Cx a b) = (a < 3) × (b < 3) × (a ≢ b)
+IsWellFormed (Delay ticks q) = (ticks ≤ longest_delay) × (q < 3)
+IsWellFormed (Barrier qs) = (0 < length qs) × All (λ q. q < 3) qs
+
+-- the statement at this place is well formed
+abbrev pub IsWellFormedSentence : Sentence → Type 0
+IsWellFormedSentence s = IsWellFormed s.statement

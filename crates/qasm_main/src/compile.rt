@@ -4,7 +4,7 @@ ghost use Rattle.box_schedule.specs.Placement.{length_of, starts_of};
 ghost use Rattle.plan_tree.specs.Sound.{IsSound, start_cmp, start_key};
 ghost use Rattle.qs_machine.specs.BuiltIn.{built_in};
 ghost use Rattle.qasm_main.specs.Compiled.{IsBodyBy, PlanIs, is_left_out, op_by, ops_of, owners_of, pulse_at, pulses_by, pulses_from, tick_out_at, timed};
-ghost use Rattle.qasm_main.specs.Statement.{AreKnown, IsKnown};
+ghost use Rattle.qasm_main.specs.Statement.{IsWellFormed, IsWellFormedSentence};
 
 use crate::statement::{Sentence, Statement};
 use box_schedule::{BoxRefusal, Placed, TBlock, TOp, schedule};
@@ -52,7 +52,7 @@ fn timed(
 
 /// The operation of a statement.
 fn operation(alloc: Global, sentence: &Sentence) -> Result<TOp, AllocError>
-    requires { AreKnown sentence.now }
+    requires { IsWellFormedSentence sentence.now }
     ensures { IfOk result (λ op. op ≡ op_by sentence.now.span sentence.now.statement) }
 {
     let span = sentence.span;
@@ -68,7 +68,7 @@ fn operation(alloc: Global, sentence: &Sentence) -> Result<TOp, AllocError>
 
 /// The operations of statements.
 fn operations(alloc: Global, sentences: &[Sentence]) -> Result<TBlock, Memory>
-    requires { All AreKnown sentences.now }
+    requires { All IsWellFormedSentence sentences.now }
     ensures { IfOk result (λ block. block.ops ≡ ops_of sentences.now) }
 {
     let mut ops = Vec::with_capacity(alloc, sentences.len())?;
@@ -191,7 +191,7 @@ fn owners_of(alloc: Global, ports: &[Port]) -> Result<List<u8>, Memory>
 /// Refused with code 203, at the first statement, where the block lasts longer than 2^40 ticks.
 pub fn plan_of(alloc: Global, sentences: &[Sentence], machine: &Machine) -> Result<Plan, Halt>
     requires builtin { machine.now ≡ built_in }
-    requires known { All AreKnown sentences.now }
+    requires formed { All IsWellFormedSentence sentences.now }
     requires few { length sentences.now ≤ 65536 }
     ensures plan { PlanIs sentences.now result }
     ensures sound { IfOk result IsSound }
@@ -299,7 +299,7 @@ mod tests {
         Case {
             lines: &[
                 Line::Barrier(&[0, 1, 2]),
-                Line::Barrier(&[]),
+                Line::Barrier(&[2]),
                 Line::Barrier(&[1]),
             ],
             times: 1,
@@ -318,7 +318,7 @@ mod tests {
     ];
 
     fn make_statement(rt: &impl Abort, alloc: Global, line: &Line) -> Result<Statement, AllocError>
-        ensures { IfOk result IsKnown }
+        ensures { IfOk result IsWellFormed }
     {
         match line {
             Line::X(qubit) => {
@@ -334,7 +334,7 @@ mod tests {
                 Ok(Statement::Delay(*ticks, *qubit))
             }
             Line::Barrier(qubits) => {
-                assert!(rt; qubits.iter().all(|q| *q < 3));
+                assert!(rt; !qubits.is_empty() && qubits.iter().all(|q| *q < 3));
                 let qubits = Vec::from_slice(alloc, qubits)?;
                 Ok(Statement::Barrier(List::from_vec(qubits)))
             }
@@ -348,8 +348,8 @@ mod tests {
         sentences: &mut Vec<Sentence>,
         lines: &[Line],
     ) -> Result<(), AllocError>
-        requires { All AreKnown sentences.old.items }
-        ensures { OnOk result (All AreKnown sentences.new.items) }
+        requires { All IsWellFormedSentence sentences.old.items }
+        ensures { OnOk result (All IsWellFormedSentence sentences.new.items) }
     {
         for line in lines {
             assert!(rt; sentences.len() < 65536);
@@ -369,7 +369,7 @@ mod tests {
         alloc: Global,
         case: &Case,
     ) -> Result<Vec<Sentence>, AllocError>
-        ensures known { IfOk result (λ sentences. All AreKnown sentences.items) }
+        ensures formed { IfOk result (λ sentences. All IsWellFormedSentence sentences.items) }
         ensures few { IfOk result (λ sentences. length sentences.items ≤ 65536) }
     {
         let mut sentences = Vec::new(alloc);

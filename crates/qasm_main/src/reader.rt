@@ -1,5 +1,6 @@
 ghost use Rattle.std.specs.Prelude.{◌≡◌, ◌<◌, ◌≤◌, All, IfOk, IfSome, length, option_map};
-ghost use Rattle.qasm_main.specs.Source.{behind, digits_behind, qubit_of, time_of, qubit_at, time_at, next_qubit_at, ended, x_at, cx_at, delay_at, qubits_behind, barrier_at, statement_by, statement_at, longest_delay, IsWellFormed};
+ghost use Rattle.qasm_main.specs.Source.{behind, digits_behind, qubit_of, time_of, qubit_at, time_at, next_qubit_at, ended, x_at, cx_at, delay_at, qubits_behind, barrier_at, statement_by, statement_at};
+ghost use Rattle.qasm_main.specs.Statement.{IsWellFormed, IsWellFormedSentence, longest_delay};
 ghost use Rattle.qasm_main.specs.Refused.{fault_refusal, refusal_at};
 ghost use Rattle.qasm_main.specs.Reads.{HaltIs, Reads, ReadsTokens};
 
@@ -243,7 +244,7 @@ fn halt_of(alloc: Global, fault: LexRefusal) -> Halt
 /// As those of `read`, of a source that has tokens.
 fn read_tokens(alloc: Global, tokens: &[Token], most: u32) -> Result<List<Sentence>, Halt>
     ensures reads { ReadsTokens most tokens.now result }
-    ensures formed { IfOk result (λ v. All (λ s. IsWellFormed s.statement) v) }
+    ensures formed { IfOk result (λ v. All IsWellFormedSentence v) }
     ensures few { IfOk result (λ v. length v ≤ most) }
 {
     let mut sentences = List::new(alloc);
@@ -277,7 +278,7 @@ fn read_tokens(alloc: Global, tokens: &[Token], most: u32) -> Result<List<Senten
 pub fn read(alloc: Global, source: &[u8], most: u32) -> Result<List<Sentence>, Halt>
     requires { length source.now ≤ 1048576 }
     ensures reads { Reads most source.now result }
-    ensures formed { IfOk result (λ v. All (λ s. IsWellFormed s.statement) v) }
+    ensures formed { IfOk result (λ v. All IsWellFormedSentence v) }
     ensures few { IfOk result (λ v. length v ≤ most) }
 {
     match lex(alloc, source) {

@@ -1,7 +1,7 @@
 ghost use Rattle.std.specs.Prelude.{◌≡◌, ◌<◌, All, IfOk, length, replicate};
 ghost use Rattle.plan_tree.specs.Parts.{items_of, part_of, part_stmt, parts_of};
 ghost use Rattle.plan_tree.specs.Sound.{IsSound, IsSoundStmt};
-ghost use Rattle.qasm_main.specs.Statement.{AreKnown};
+ghost use Rattle.qasm_main.specs.Statement.{IsWellFormedSentence};
 
 use plan_tree::{Event, Item, Part, PartStmt, Plan, PlanStmt, Split};
 use qs_values::{List, Memory};
@@ -96,7 +96,7 @@ mod tests {
 
     fn x_on(qubit: u8) -> Sentence
         requires { qubit < 3 }
-        ensures { AreKnown result }
+        ensures { IsWellFormedSentence result }
     {
         Sentence {
             span: Span { line: 1, col: 1 },

@@ -9,7 +9,7 @@ pub enum Statement {
     Cx(u8, u8),
     /// `delay` of so many ticks on a qubit.
     Delay(u64, u8),
-    /// `barrier` on these qubits, in the order of the source.
+    /// `barrier` on these qubits, one or more, in the order of the source.
     Barrier(List<u8>),
 }
 

@@ -5,7 +5,7 @@ ghost use Rattle.qs_machine.specs.BuiltIn.{built_in};
 ghost use Rattle.timeline_board.specs.Refused.{name_of};
 ghost use Rattle.qasm_main.specs.declared.statement.Sentence.{Sentence as Said};
 ghost use Rattle.qasm_main.specs.Source.{most_statements};
-ghost use Rattle.qasm_main.specs.Statement.{AreKnown};
+ghost use Rattle.qasm_main.specs.Statement.{IsWellFormedSentence};
 ghost use Rattle.qasm_main.specs.Words.{file_of};
 ghost use Rattle.qasm_main.specs.Faults.{IsReadFault, IsWriteFault};
 ghost use Rattle.qasm_main.specs.Compiled.{IsCompiled, IsPlanOf};
@@ -176,7 +176,7 @@ fn answer_sentences<K: Sink>(
     sink: &mut K,
 ) -> Plain
     requires builtin { machine.now ≡ built_in }
-    requires known { All AreKnown sentences.now }
+    requires formed { All IsWellFormedSentence sentences.now }
     requires few { length sentences.now ≤ MOST }
     ensures { WantsMemory (K.state sink.old) (K.state sink.new) result ⊎ AnswersBuilt sentences.now (K.state sink.old) (K.state sink.new) result }
 {

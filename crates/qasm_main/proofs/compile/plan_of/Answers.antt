@@ -4,7 +4,7 @@ use Rattle.qasm_main.proofs.SoundLemmas.{sound_plan}
 use Rattle.qasm_main.proofs.compile.plan_of.Goals as goal
 
 pub schedule-requires-clause-plain : goal.schedule-requires-clause-plain
-schedule-requires-clause-plain c = rw c.in_ok-block.ensures (plain_ops c.args.sentences.now c.requires.known)
+schedule-requires-clause-plain c = rw c.in_ok-block.ensures (plain_ops c.args.sentences.now c.requires.formed)
 
 pub returns-in-Err-TickOut-clause-plan : goal.returns-in-Err-TickOut-clause-plan
 returns-in-Err-TickOut-clause-plan c =
@@ -16,5 +16,5 @@ returns-clause-sound c =
     let places = rw c.in_ok-block.ensures at c.in-Ok.ensures.places in
     let earliest = rw (c.in_ok-block.ensures, places.0) at c.in-Ok.ensures.earliest in
     sound_plan c.args.sentences.now _
-    (record { known = c.requires.known; few = c.requires.few; short = places.2; admissible = earliest.0 })
+    (record { formed = c.requires.formed; few = c.requires.few; short = places.2; admissible = earliest.0 })
     (search rules)
