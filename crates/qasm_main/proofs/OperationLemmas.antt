@@ -1,13 +1,14 @@
 -- The operations of statements: what their placement takes, and where the first of them stands.
-use Rattle.std.proofs.Common.{◌≡◌, ◌≤◌, ◌^◌, ◌∷◌, [], List, ℕ, All, Bool, false, true, pos, sym, ap, ◌∙◌, lit≤}
-use Rattle.std.specs.Prelude.{IsSomeAnd, slice_get}
+use Rattle.std.proofs.Common.{◌≡◌, ◌≤◌, ◌+◌, ◌^◌, ◌∷◌, [], List, ℕ, zero, suc, All, Bool, false, true, true≢false, pos, ◌+ℤ◌, ◌≤ℤ◌, sym, subst, ap, ◌∙◌, lit≤, arith}
+use Rattle.std.specs.Prelude.{IsSomeAnd, int_lt, neg_ℤ, slice_get}
+use Rattle.std.proofs.lemmas.Int.{ints}
 use Rattle.std.proofs.lemmas.List.Elements.{All-map, All-weaker}
 use Rattle.qs_values.specs.declared.span.Span.{Span}
 use Rattle.qs_values.specs.declared.refusal.Refusal.{Refusal}
 use Rattle.box_schedule.specs.declared.block.TOp.{TOp}
 use Rattle.box_schedule.specs.declared.block.TOp.TheOpen.{TOp-F}
 use Rattle.box_schedule.specs.declared.block.TOp.TheViews.{out-roll-TOp}
-use Rattle.box_schedule.specs.Placement.{IsPlain, natural, opened, ticks_of}
+use Rattle.box_schedule.specs.Placement.{IsFirstNegative, IsPlain, end_from, is_negative, natural, opened}
 use Rattle.qasm_main.specs.declared.statement.Statement.{Statement}
 use Rattle.qasm_main.specs.declared.statement.Statement.TheVariants.{X, Cx, Delay, Barrier}
 use Rattle.qasm_main.specs.declared.statement.Sentence.{Sentence}
@@ -45,11 +46,15 @@ qubits-op span (Cx a b) = qubits-timed span (a ∷ b ∷ []) 8 false
 qubits-op span (Delay ticks q) = qubits-timed span (q ∷ []) ticks false
 qubits-op span (Barrier qubits) = qubits-timed span qubits 0 true
 
-pub ticks-op : (span : Span) (x : Statement) → ticks_of (op_by span x) ≡ ticks_by x
-ticks-op span (X q) = ap natural (ticks-timed span (q ∷ []) 4 false)
-ticks-op span (Cx a b) = ap natural (ticks-timed span (a ∷ b ∷ []) 8 false)
-ticks-op span (Delay ticks q) = ap natural (ticks-timed span (q ∷ []) ticks false)
-ticks-op span (Barrier qubits) = ap natural (ticks-timed span qubits 0 true)
+-- where an operation of a statement ends that begins at a tick
+end-timed : (start : ℕ) (span : Span) (qubits : List ℕ) (ticks : ℕ) (barrier : Bool) → end_from start (timed span qubits ticks barrier) ≡ start + ticks
+end-timed start span qubits ticks barrier = ap (λ lasts. natural (pos start +ℤ lasts)) (ticks-timed span qubits ticks barrier)
+
+pub end-op : (start : ℕ) (span : Span) (x : Statement) → end_from start (op_by span x) ≡ start + ticks_by x
+end-op start span (X q) = end-timed start span (q ∷ []) 4 false
+end-op start span (Cx a b) = end-timed start span (a ∷ b ∷ []) 8 false
+end-op start span (Delay ticks q) = end-timed start span (q ∷ []) ticks false
+end-op start span (Barrier qubits) = end-timed start span qubits 0 true
 
 span-op : (span : Span) (x : Statement) → (opened (op_by span x)).span ≡ span
 span-op span (X q) = span-timed span (q ∷ []) 4 false
@@ -64,9 +69,9 @@ plain_timed span qubits ticks barrier short =
     let has_ticks = ticks-timed span qubits ticks barrier in
     record {
       parts = ap (λ (op : TOp-F TOp). op.length.parts) (out-roll-TOp _);
-      short = (ticks, has_ticks, short);
+      low = subst (λ lasts. neg_ℤ (pos (2 ^ 32)) ≤ℤ lasts) (sym has_ticks) (omega (arith, ints));
+      high = subst (λ lasts. lasts ≤ℤ pos (2 ^ 32)) (sym has_ticks) (omega (arith, ints, short));
       inner = ap (λ (op : TOp-F TOp). op.inner) (out-roll-TOp _);
-      fixed = ap (λ (op : TOp-F TOp). op.fixed) (out-roll-TOp _);
     }
 
 plain_by : (span : Span) (x : Statement) → IsWellFormed x → IsPlain (op_by span x)
@@ -80,6 +85,29 @@ pub plain_ops : (sentences : List Sentence) → All IsWellFormedSentence sentenc
 plain_ops sentences formed =
     All-map IsPlain (λ s. op_by s.span s.statement) sentences
     (All-weaker IsWellFormedSentence (λ s. IsPlain (op_by s.span s.statement)) (λ s h. plain_by s.span s.statement h) sentences formed)
+
+-- ---- none lasts less than 0 ticks
+
+not_below_zero : (n : ℕ) → int_lt (pos n) (pos 0) ≡ false
+not_below_zero n = grind (arith, ints)
+
+zero_or_more_timed : (span : Span) (qubits : List ℕ) (ticks : ℕ) (barrier : Bool) → is_negative (timed span qubits ticks barrier) ≡ false
+zero_or_more_timed span qubits ticks barrier = ap (λ lasts. int_lt lasts (pos 0)) (ticks-timed span qubits ticks barrier) ∙ not_below_zero ticks
+
+zero_or_more : (span : Span) (x : Statement) → is_negative (op_by span x) ≡ false
+zero_or_more span (X q) = zero_or_more_timed span (q ∷ []) 4 false
+zero_or_more span (Cx a b) = zero_or_more_timed span (a ∷ b ∷ []) 8 false
+zero_or_more span (Delay ticks q) = zero_or_more_timed span (q ∷ []) ticks false
+zero_or_more span (Barrier qubits) = zero_or_more_timed span qubits 0 true
+
+none_negative_at : (sentences : List Sentence) (index : ℕ) (span : Span) → ¬ IsSomeAnd (slice_get (ops_of sentences) index) (λ op. (is_negative op ≡ true) × ((opened op).span ≡ span))
+none_negative_at [] index span negative = negative
+none_negative_at (s ∷ ss) zero span negative = true≢false (sym negative.0 ∙ zero_or_more s.span s.statement)
+none_negative_at (s ∷ ss) (suc n) span negative = none_negative_at ss n span negative
+
+-- Statements have no first operation that lasts less than 0 ticks.
+pub none_negative : (sentences : List Sentence) (span : Span) → ¬ IsFirstNegative (ops_of sentences) span
+none_negative sentences span first = none_negative_at sentences first.index span first.negative
 
 -- ---- the place of a refusal
 

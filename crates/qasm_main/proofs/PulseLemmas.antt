@@ -11,12 +11,12 @@ use Rattle.plan_tree.specs.declared.plan.Event.{Event}
 use Rattle.plan_tree.specs.declared.plan.Deed.TheVariants.{Pulse}
 use Rattle.plan_tree.specs.Sound.{same_start}
 use Rattle.box_schedule.specs.declared.block.TOp.{TOp}
-use Rattle.box_schedule.specs.Placement.{latest_end, opened, shares, ticks_of}
+use Rattle.box_schedule.specs.Placement.{end_from, latest_end, opened, shares}
 use Rattle.qasm_main.specs.declared.statement.Statement.{Statement}
 use Rattle.qasm_main.specs.declared.statement.Statement.TheVariants.{X, Cx, Delay, Barrier}
 use Rattle.qasm_main.specs.declared.statement.Sentence.{Sentence}
 use Rattle.qasm_main.specs.Statement.{IsWellFormed, IsWellFormedSentence}
-use Rattle.qasm_main.proofs.OperationLemmas.{qubits_by, qubits-op, ticks_by, ticks-op}
+use Rattle.qasm_main.proofs.OperationLemmas.{end-op, qubits_by, qubits-op, ticks_by}
 use Rattle.qasm_main.specs.Compiled.{op_by, ops_of, pulse_at, pulses_by, pulses_from, w4, w8}
 
 -- ---- a fact of the pulses of each statement is one of all
@@ -92,7 +92,7 @@ begin_before_end (s ∷ ss) (start ∷ starts) =
     let here : ℕ = start + ticks_by s.statement in
     let rest : ℕ = latest_end (ops_of ss) starts in
     let last : ℕ = latest_end (ops_of (s ∷ ss)) (start ∷ starts) in
-    let lasts : ticks_of (op_by s.span s.statement) ≡ ticks_by s.statement = ticks-op s.span s.statement in
+    let ends : end_from start (op_by s.span s.statement) ≡ here = end-op start s.span s.statement in
     each_pulse (λ e. e.offset < last) s ss start starts
     (All-weaker (λ e. e.offset < here) (λ e. e.offset < last) (λ e h. omega arith) _ (before_by start s.statement))
     (All-weaker (λ e. e.offset < rest) (λ e. e.offset < last) (λ e h. omega arith) _ (begin_before_end ss starts))
@@ -161,7 +161,7 @@ apart_by start (Barrier qubits) rest formed late apart = apart
 -- no operation begins before an earlier one on its qubits has ended
 abbrev pub AreApart : List TOp → List ℕ → Type 0
 AreApart ops starts = (i j : ℕ) (a b : TOp) → i < j → slice_get ops i ≡ Some a → slice_get ops j ≡ Some b → shares a b ≡ true
-    → slice_index starts i + ticks_of a ≤ slice_index starts j
+    → end_from (slice_index starts i) a ≤ slice_index starts j
 
 pub pulses_apart : (ss : List Sentence) (starts : List ℕ) → All IsWellFormedSentence ss → AreApart (ops_of ss) starts → IsDistinct same_start (pulses_from ss starts)
 unfolding IsDistinct
@@ -170,7 +170,7 @@ pulses_apart (s ∷ ss) [] formed apart = tt
 pulses_apart (s ∷ ss) (start ∷ starts) formed apart =
     let first : TOp = op_by s.span s.statement in
     let own : (opened first).qubits ≡ qubits_by s.statement = qubits-op s.span s.statement in
-    let lasts : ticks_of first ≡ ticks_by s.statement = ticks-op s.span s.statement in
+    let ends : end_from start first ≡ start + ticks_by s.statement = end-op start s.span s.statement in
     apart_by start s.statement (pulses_from ss starts) (All-head IsWellFormedSentence s ss formed)
     (λ q among. late_from q (start + ticks_by s.statement) ss starts (λ j b is among_b.
     let meets : shares first b ≡ true = shared (opened first).qubits (opened b).qubits q (rw own among) among_b in

@@ -200,6 +200,7 @@ pub fn plan_of(alloc: Global, sentences: &[Sentence], machine: &Machine) -> Resu
     let placed = match schedule(alloc, &block, &List::new(alloc)) {
         Ok(placed) => placed,
         Err(BoxRefusal::TickOut { span }) => return Err(Halt::Refused(tick_out(alloc, span))),
+        Err(BoxRefusal::DelayNegative { .. }) => unreachable!(),
         Err(BoxRefusal::Memory) => return Err(Halt::Memory),
     };
     let body = body(alloc, sentences, &placed)?;

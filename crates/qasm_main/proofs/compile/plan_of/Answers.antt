@@ -1,5 +1,5 @@
 use Rattle.std.proofs.Common.{rules}
-use Rattle.qasm_main.proofs.OperationLemmas.{first_place, plain_ops}
+use Rattle.qasm_main.proofs.OperationLemmas.{first_place, none_negative, plain_ops}
 use Rattle.qasm_main.proofs.SoundLemmas.{sound_plan}
 use Rattle.qasm_main.proofs.compile.plan_of.Goals as goal
 
@@ -10,6 +10,11 @@ pub returns-in-Err-TickOut-clause-plan : goal.returns-in-Err-TickOut-clause-plan
 returns-in-Err-TickOut-clause-plan c =
     let places = rw (c.in-Err-TickOut.field-0-is, c.in_ok-block.ensures) at c.in-Err-TickOut.ensures.places in
     (places.0, first_place c.args.sentences.now _ _ places.1 c.tick_out.ensures)
+
+pub unreachable-requires : goal.unreachable-requires
+unreachable-requires c =
+    let places = rw (c.in-Err-DelayNegative.field-0-is, c.in_ok-block.ensures) at c.in-Err-DelayNegative.ensures.places in
+    none_negative c.args.sentences.now _ places.1
 
 pub returns-clause-sound : goal.returns-clause-sound
 returns-clause-sound c =
