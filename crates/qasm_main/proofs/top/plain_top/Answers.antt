@@ -9,8 +9,8 @@ returns-in-Some-clause-read_fault g c =
     let shelf = g.H.Shelf.state c.args.shelf.now in
     let shelf' = g.H.Shelf.state c.step.new.shelf in
     subst (λ file. IsReadFault file shelf shelf' c.step.result.status) c.in-Some.ensures
-    (read-fault 65536 1048576 (Some c.in-Some.name.now) shelf shelf' (g.K.Sink.state c.args.sink.now) (g.K.Sink.state c.step.new.sink) c.step.result c.step.ensures)
+    (read-fault 65536 1048576 (Some _) shelf shelf' (g.K.Sink.state c.args.sink.now) (g.K.Sink.state c.step.new.sink) c.step.result c.step.ensures)
 
 pub returns-in-Some-clause-write_fault : goal.returns-in-Some-clause-write_fault
 returns-in-Some-clause-write_fault g c =
-    write-fault 65536 1048576 (Some c.in-Some.name.now) (g.H.Shelf.state c.args.shelf.now) (g.H.Shelf.state c.step.new.shelf) (g.K.Sink.state c.args.sink.now) (g.K.Sink.state c.step.new.sink) c.step.result c.step.ensures
+    write-fault 65536 1048576 (Some _) (g.H.Shelf.state c.args.shelf.now) (g.H.Shelf.state c.step.new.shelf) (g.K.Sink.state c.args.sink.now) (g.K.Sink.state c.step.new.sink) c.step.result c.step.ensures
