@@ -43,6 +43,7 @@ pub record TellsAlone (old new : SinkState) (told : Told) (plain : Plain) : Type
 abbrev pub status_by : Ending → ℕ
 status_by Done = 0
 
+-- the line of a file that could not be read
 abbrev pub read_failed : List ℕ → List ℕ
 read_failed name = codes "read failed " ++ name ++ codes "\n"
 
@@ -125,6 +126,7 @@ AnswersStep most limit name shelf shelf' old new plain =
 abbrev pub AnswersUsage : ShelfState → ShelfState → SinkState → SinkState → Plain → Type 0
 AnswersUsage shelf shelf' old new plain = (shelf' ≡ shelf) × TellsAlone old new (record { status = 2; text = usage }) plain
 
+-- the answer of words that name a file to step, or none
 abbrev pub AnswersWords : ℕ → ℕ → Option (List ℕ) → ShelfState → ShelfState → SinkState → SinkState → Plain → Type 0
 AnswersWords most limit None shelf shelf' old new plain = AnswersUsage shelf shelf' old new plain
 AnswersWords most limit (Some name) shelf shelf' old new plain = AnswersStep most limit name shelf shelf' old new plain

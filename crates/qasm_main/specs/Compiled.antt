@@ -44,6 +44,7 @@ timed span qubits ticks barrier = roll-TOp (record {
   barrier = barrier;
 })
 
+-- the operation of a statement at its place
 abbrev pub op_by : Span → Statement → TOp
 op_by span (X q) = timed span (q ∷ []) w4_ticks false
 op_by span (Cx a b) = timed span (a ∷ b ∷ []) w8_ticks false
@@ -71,6 +72,7 @@ pulses_from [] starts = []
 pulses_from (s ∷ ss) [] = []
 pulses_from (s ∷ ss) (start ∷ starts) = pulses_by start s.statement ++ pulses_from ss starts
 
+-- the pulses of a source, at the least starts of its operations
 abbrev pub pulses_of : List Sentence → List Event
 pulses_of sentences = pulses_from sentences (starts_of (ops_of sentences))
 
@@ -84,6 +86,7 @@ pub record IsBlockOf (sentences : List Sentence) (b : Block-) : Type 0 where
 abbrev pub is_left_out : List Sentence → Bool
 is_left_out sentences = nat_eq (length (pulses_of sentences)) 0 && nat_eq (length_of (ops_of sentences)) 0
 
+-- the statements of a plan: none where the block is left out, and else the block of the source
 abbrev pub IsBodyBy : Bool → List Sentence → List PlanStmt → Type 0
 IsBodyBy true sentences body = body ≡ []
 IsBodyBy false sentences body = (b : Block-) × (body ≡ Block b ∷ []) × IsBlockOf sentences b
@@ -112,6 +115,7 @@ IsCompiled plan = (sentences : List Sentence) × IsPlanOf sentences plan
 abbrev pub tick_out : ℕ
 tick_out = 203
 
+-- the refusal of a block that is too long, at this place
 abbrev pub tick_out_at : Span → Refusal
 tick_out_at place = record { code = tick_out; span = Some place; words = [] }
 

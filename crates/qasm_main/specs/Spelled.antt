@@ -33,6 +33,7 @@ abbrev pub spelled : List Statement → List (List ℕ)
 spelled [] = []
 spelled (s ∷ ss) = words_of s ++ spelled ss
 
+-- the texts of tokens
 abbrev pub texts_of : List Token → List (List ℕ)
 texts_of tokens = map (λ t. t.text) tokens
 

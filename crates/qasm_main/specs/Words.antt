@@ -9,5 +9,6 @@ file_of (command ∷ []) = None
 file_of (command ∷ file ∷ []) = if bytes_eq command (codes "step") && not (bytes_eq file (codes "-")) && not (bytes_eq file []) then Some file else None
 file_of (command ∷ file ∷ more ∷ rest) = None
 
+-- the line that all other words are answered
 abbrev pub usage : List ℕ
 usage = codes "usage: check F [M] | code F [M] | step F [M [T [O]]] | run F [M [T]] | make N [text]\n"
