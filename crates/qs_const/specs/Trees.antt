@@ -33,13 +33,13 @@ kind_step (Time value unit) span = Other
 kind_step (Text text) span = Quoted text
 kind_step (Truth value) span = Truthful value
 kind_step (Name name) span = Named span name
-kind_step (Index name index) span = Indexed span name index.value
+kind_step (Index name index) span = Indexed span name index
 kind_step (Physical number) span = Other
 kind_step (Call name args) span = Other
 kind_step (Cast type operand) span = Other
-kind_step (Group inner) span = Enclosed inner.value
-kind_step (Unary op operand) span = Signed span op operand.value
-kind_step (Binary left op right) span = Joined span left.value op right.value
+kind_step (Group inner) span = Enclosed inner
+kind_step (Unary op operand) span = Signed span op operand
+kind_step (Binary left op right) span = Joined span left op right
 kind_step (Number value) span = Given value
 
 abbrev pub expr_step : Expr-F (Span → Tree) Tree (Unit {0}) → Tree

@@ -7,7 +7,7 @@ use qs_tree::BinOp::{
     NotEqual, Or, Power, Rem, ShiftLeft, ShiftRight, Sub,
 };
 use qs_tree::{BinOp, Expr, ExprKind, UnOp};
-use qs_values::{Frac, Name, Num, Span};
+use qs_values::{Boxed, Frac, Name, Num, Span};
 use std::alloc::Global;
 use std::test::Fail;
 
@@ -205,15 +205,15 @@ fn slow(e: &Expr) -> Outcome {
         ExprKind::Name(name) => (constant(name.as_str()), NEITHER, NEITHER),
         ExprKind::Index(name, index) => {
             let made = constant(name.as_str()).filter(|made| made.is_err());
-            (made, slow(index), NEITHER)
+            (made, slow(index.get()), NEITHER)
         }
-        ExprKind::Group(inner) => return slow(inner),
+        ExprKind::Group(inner) => return slow(inner.get()),
         ExprKind::Unary(op, operand) => {
-            let x = slow(operand);
+            let x = slow(operand.get());
             (x.0.and_then(|x| before(*op, x)), x, NEITHER)
         }
         ExprKind::Binary(left, op, right) => {
-            let (x, y) = (slow(left), slow(right));
+            let (x, y) = (slow(left.get()), slow(right.get()));
             (y.0.and_then(|y| between(*op, x.0, y)), x, y)
         }
         _ => return NEITHER,
@@ -257,15 +257,15 @@ impl Chance {
     }
 
     /// An expression at a place of few lines and columns, so that many are alike.
-    fn node(&mut self, kind: ExprKind) -> Result<Box<Expr>, Fail> {
+    fn node(&mut self, kind: ExprKind) -> Result<Boxed<Expr>, Fail> {
         let line = 1 + (self.next() % 2) as u32;
         let col = 1 + (self.next() % 4) as u32;
         let span = Span { line, col };
-        Ok(Box::new(self.alloc, Expr { span, kind })?)
+        Ok(Boxed::new(self.alloc, Expr { span, kind })?)
     }
 
     /// A number, a name or a truth value.
-    fn leaf(&mut self) -> Result<Box<Expr>, Fail> {
+    fn leaf(&mut self) -> Result<Boxed<Expr>, Fail> {
         let kind = match self.next() % 16 {
             0..=7 => ExprKind::Whole(self.next() % 6),
             8 => ExprKind::Whole(61 + self.next() % 4),
@@ -281,7 +281,7 @@ impl Chance {
     }
 
     /// An expression of up to 6 levels, made from its leaves upwards.
-    fn built(&mut self) -> Result<Box<Expr>, Fail> {
+    fn built(&mut self) -> Result<Boxed<Expr>, Fail> {
         let mut parts = vec![in self.alloc; self.leaf()?]?;
         for _ in 0..self.next() % 6 {
             let single = self.leaf()?;
@@ -315,14 +315,14 @@ fn agrees(rt: HostRuntime) -> Result<(), Fail> {
     let mut typed = 0u32;
     for _ in 0..10_000 {
         let e = chance.built()?;
-        let want = match slow(&e) {
+        let want = match slow(e.get()) {
             (Some(Number(a, b)), _) => number_text(alloc, [a.0, a.1, b.0, b.1])?,
             (Some(Truth(value)), _) => format!(in alloc; "{value}")?,
             (Some(Digits), _) => format!(in alloc; "0110")?,
             (None, Some((line, col, code))) => format!(in alloc; "{code} {line}:{col}")?,
             (None, None) => format!(in alloc; "no rule")?,
         };
-        let told = answer(alloc, &e, &consts)?;
+        let told = answer(alloc, e.get(), &consts)?;
         assert_eq!(rt; told.as_str(), want.as_str(), "{e:?}");
         typed = typed.saturating_add((want.as_str() != "no rule") as u32);
     }

@@ -40,19 +40,19 @@ pub fn folded(alloc: Global, e: &Expr, consts: &Consts) -> Result<Folded, AllocE
             Ok(alone_folded(e.span, made))
         }
         ExprKind::Index(name, index) => {
-            let index = folded(alloc, index, consts)?;
+            let index = folded(alloc, index.get(), consts)?;
             let made = index_made(consts, name.as_str());
             Ok(one_folded(e.span, made, &index))
         }
-        ExprKind::Group(inner) => folded(alloc, inner, consts),
+        ExprKind::Group(inner) => folded(alloc, inner.get(), consts),
         ExprKind::Unary(op, operand) => {
-            let operand = folded(alloc, operand, consts)?;
+            let operand = folded(alloc, operand.get(), consts)?;
             let made = sign_made(*op, operand.value());
             Ok(one_folded(e.span, made, &operand))
         }
         ExprKind::Binary(left, op, right) => {
-            let left = folded(alloc, left, consts)?;
-            let right = folded(alloc, right, consts)?;
+            let left = folded(alloc, left.get(), consts)?;
+            let right = folded(alloc, right.get(), consts)?;
             let made = pair_made(*op, left.value(), right.value());
             Ok(two_folded(e.span, made, &left, &right))
         }

@@ -3,7 +3,7 @@ use crate::folding::folded;
 use crate::{ConstRefusal, fold};
 use qs_lexer::{Token, TokenKind, lex};
 use qs_tree::{BinOp, Const, ConstVal, Consts, Expr, ExprKind, UnOp};
-use qs_values::{Frac, List, Name, Num, Span};
+use qs_values::{Boxed, Frac, List, Name, Num, Span};
 use std::alloc::Global;
 use std::test::Fail;
 
@@ -72,7 +72,7 @@ impl Reader {
     fn close(&mut self) -> Result<(), Fail> {
         let open = self.open.pop().ok_or("nothing is open")?;
         let last = self.operands.pop().ok_or("no operand")?;
-        let last = Box::new(self.alloc, last)?;
+        let last = Boxed::new(self.alloc, last)?;
         let (span, kind) = match open {
             Open::Bracket(span) => (span, ExprKind::Group(last)),
             Open::Index(span, name) => (span, ExprKind::Index(name, last)),
@@ -80,7 +80,7 @@ impl Reader {
             Open::Between(op, _) => {
                 let first = self.operands.pop().ok_or("no left operand")?;
                 let span = first.span;
-                let first = Box::new(self.alloc, first)?;
+                let first = Boxed::new(self.alloc, first)?;
                 (span, ExprKind::Binary(first, op, last))
             }
         };

@@ -1,6 +1,5 @@
 -- The tokens of each kind of expression, and those of the worked examples.
-use Rattle.std.proofs.Common.{◌≡◌, ℕ, List, [], ◌∷◌, ◌++◌, Bool, true, false, map, option_map, codes, Option, Some, None, Box, Global, sym, ap, ◌∙◌, refl}
-use Rattle.std.specs.Ptr.{Ptr}
+use Rattle.std.proofs.Common.{◌≡◌, ℕ, List, [], ◌∷◌, ◌++◌, Bool, true, false, map, option_map, codes, Option, Some, None, sym, ap, ◌∙◌, refl}
 use Rattle.qs_values.specs.declared.number.Frac.{Frac}
 use Rattle.qs_values.specs.declared.number.Num.{Num}
 use Rattle.qs_lexer.specs.declared.token.TokenKind.TheVariants as kind
@@ -18,7 +17,7 @@ use Rattle.qs_tree.specs.declared.expr.ExprKind.TheOpen as layer
 use Rattle.qs_tree.specs.declared.expr.ExprKind.TheVariants.{Whole, Decimal, Time, Text, Truth, Name, Index, Physical, Call, Cast, Group, Unary, Binary, Number, rolls-Whole, rolls-Decimal, rolls-Time, rolls-Text, rolls-Truth, rolls-Name, rolls-Index, rolls-Physical, rolls-Call, rolls-Cast, rolls-Group, rolls-Unary, rolls-Binary, rolls-Number}
 use Rattle.qs_tree.specs.declared.expr.ExprKind.TheFolds.{fold-Expr, fold-TypeExpr, fold-roll-ExprKind, fold-roll-TypeExpr, fold_out-Expr}
 use Rattle.qs_tree.specs.Spelling.{Seen, Word, Sign, Quoted, Qubit, Integer, Fraction, Period, enclosed, expr_step, kind_step, seen_by, sign_of_bin, sign_of_un, signed, spell, spell_kind, truth_word, type_step, width_tokens, with_commas, word_of_type}
-use Rattle.qs_tree.specs.Example.{a, boxed, calls, calls_tokens, casts, casts_tokens, placed, power, power_tokens, typed}
+use Rattle.qs_tree.specs.Example.{a, calls, calls_tokens, casts, casts_tokens, placed, power, power_tokens, typed}
 
 -- ---- one layer
 
@@ -57,9 +56,9 @@ spell-Name : (name : List ℕ) → spell_kind (Name name) ≡ Word name ∷ []
 spell-Name name =
     ap spell_kind (sym (rolls-Name name)) ∙ fold-roll-ExprKind (List Seen) (List Seen) (List Seen) kind_step expr_step type_step (layer.Name name)
 
-spell-Index : (name : List ℕ) (index : Box Expr Global) → spell_kind (Index name index) ≡ Word name ∷ enclosed (codes "[") (spell index.value) (codes "]")
+spell-Index : (name : List ℕ) (index : Expr) → spell_kind (Index name index) ≡ Word name ∷ enclosed (codes "[") (spell index) (codes "]")
 spell-Index name index =
-    ap spell_kind (sym (rolls-Index name index)) ∙ fold-roll-ExprKind (List Seen) (List Seen) (List Seen) kind_step expr_step type_step (layer.Index name index) ∙ rw (spelled index.value) refl
+    ap spell_kind (sym (rolls-Index name index)) ∙ fold-roll-ExprKind (List Seen) (List Seen) (List Seen) kind_step expr_step type_step (layer.Index name index) ∙ rw (spelled index) refl
 
 spell-Physical : (number : ℕ) → spell_kind (Physical number) ≡ Qubit number ∷ []
 spell-Physical number =
@@ -69,21 +68,21 @@ spell-Call : (name : List ℕ) (args : List Expr) → spell_kind (Call name args
 spell-Call name args =
     ap spell_kind (sym (rolls-Call name args)) ∙ fold-roll-ExprKind (List Seen) (List Seen) (List Seen) kind_step expr_step type_step (layer.Call name args) ∙ rw (all_spelled args) refl
 
-spell-Cast : (type : TypeExpr) (operand : Box Expr Global) → spell_kind (Cast type operand) ≡ type_tokens type ++ enclosed (codes "(") (spell operand.value) (codes ")")
+spell-Cast : (type : TypeExpr) (operand : Expr) → spell_kind (Cast type operand) ≡ type_tokens type ++ enclosed (codes "(") (spell operand) (codes ")")
 spell-Cast type operand =
-    ap spell_kind (sym (rolls-Cast type operand)) ∙ fold-roll-ExprKind (List Seen) (List Seen) (List Seen) kind_step expr_step type_step (layer.Cast type operand) ∙ rw (spelled operand.value) refl
+    ap spell_kind (sym (rolls-Cast type operand)) ∙ fold-roll-ExprKind (List Seen) (List Seen) (List Seen) kind_step expr_step type_step (layer.Cast type operand) ∙ rw (spelled operand) refl
 
-spell-Group : (inner : Box Expr Global) → spell_kind (Group inner) ≡ enclosed (codes "(") (spell inner.value) (codes ")")
+spell-Group : (inner : Expr) → spell_kind (Group inner) ≡ enclosed (codes "(") (spell inner) (codes ")")
 spell-Group inner =
-    ap spell_kind (sym (rolls-Group inner)) ∙ fold-roll-ExprKind (List Seen) (List Seen) (List Seen) kind_step expr_step type_step (layer.Group inner) ∙ rw (spelled inner.value) refl
+    ap spell_kind (sym (rolls-Group inner)) ∙ fold-roll-ExprKind (List Seen) (List Seen) (List Seen) kind_step expr_step type_step (layer.Group inner) ∙ rw (spelled inner) refl
 
-spell-Unary : (op : UnOp) (operand : Box Expr Global) → spell_kind (Unary op operand) ≡ signed (sign_of_un op) ++ spell operand.value
+spell-Unary : (op : UnOp) (operand : Expr) → spell_kind (Unary op operand) ≡ signed (sign_of_un op) ++ spell operand
 spell-Unary op operand =
-    ap spell_kind (sym (rolls-Unary op operand)) ∙ fold-roll-ExprKind (List Seen) (List Seen) (List Seen) kind_step expr_step type_step (layer.Unary op operand) ∙ rw (spelled operand.value) refl
+    ap spell_kind (sym (rolls-Unary op operand)) ∙ fold-roll-ExprKind (List Seen) (List Seen) (List Seen) kind_step expr_step type_step (layer.Unary op operand) ∙ rw (spelled operand) refl
 
-spell-Binary : (left : Box Expr Global) (op : BinOp) (right : Box Expr Global) → spell_kind (Binary left op right) ≡ spell left.value ++ signed (sign_of_bin op) ++ spell right.value
+spell-Binary : (left : Expr) (op : BinOp) (right : Expr) → spell_kind (Binary left op right) ≡ spell left ++ signed (sign_of_bin op) ++ spell right
 spell-Binary left op right =
-    ap spell_kind (sym (rolls-Binary left op right)) ∙ fold-roll-ExprKind (List Seen) (List Seen) (List Seen) kind_step expr_step type_step (layer.Binary left op right) ∙ rw (spelled left.value, spelled right.value) refl
+    ap spell_kind (sym (rolls-Binary left op right)) ∙ fold-roll-ExprKind (List Seen) (List Seen) (List Seen) kind_step expr_step type_step (layer.Binary left op right) ∙ rw (spelled left, spelled right) refl
 
 spell-Number : (value : Num) → spell_kind (Number value) ≡ []
 spell-Number value =
@@ -91,28 +90,28 @@ spell-Number value =
 
 -- ---- the worked examples
 
-power-fits : (p : Ptr) (h : Global) → spell (placed (power p h)) ≡ power_tokens
-power-fits p h =
-    let difference = boxed p h (Binary (boxed p h a) Sub (boxed p h (Whole 1))) in
-    let base = boxed p h (Group difference) in
+power-fits : spell (placed power) ≡ power_tokens
+power-fits =
+    let difference = placed (Binary (placed a) Sub (placed (Whole 1))) in
+    let base = placed (Group difference) in
     rw (
-      spell-Unary Neg (boxed p h (Binary base Power (boxed p h (Whole 2)))),
-      spell-Binary base Power (boxed p h (Whole 2)),
+      spell-Unary Neg (placed (Binary base Power (placed (Whole 2)))),
+      spell-Binary base Power (placed (Whole 2)),
       spell-Group difference,
-      spell-Binary (boxed p h a) Sub (boxed p h (Whole 1)),
+      spell-Binary (placed a) Sub (placed (Whole 1)),
       spell-Name (codes "a"),
       spell-Whole 1,
       spell-Whole 2,
     )
     refl
 
-calls-fit : (p : Ptr) (h : Global) → spell (placed (calls p h)) ≡ calls_tokens
-calls-fit p h =
-    let three = boxed p h (Whole 3) in
+calls-fit : spell (placed calls) ≡ calls_tokens
+calls-fit =
+    let three = placed (Whole 3) in
     let indexed = Index (codes "a") three in
     let args = placed indexed ∷ placed (Truth true) ∷ placed (Physical 7) ∷ [] in
     rw (
-      spell-Binary (boxed p h (Call (codes "f") args)) Div (boxed p h (Call (codes "g") [])),
+      spell-Binary (placed (Call (codes "f") args)) Div (placed (Call (codes "g") [])),
       spell-Call (codes "f") args,
       spell-Call (codes "g") [],
       spell-Index (codes "a") three,
@@ -122,20 +121,20 @@ calls-fit p h =
     )
     refl
 
-type-tokens : (word : TypeWord) (width : Option (Box Expr Global)) → type_tokens (typed word width) ≡ Word (word_of_type word) ∷ width_tokens (option_map (λ b. spell b.value) width)
+type-tokens : (word : TypeWord) (width : Option Expr) → type_tokens (typed word width) ≡ Word (word_of_type word) ∷ width_tokens (option_map spell width)
 type-tokens word None = fold-roll-TypeExpr (List Seen) (List Seen) (List Seen) kind_step expr_step type_step (record { span = record { line = 1; col = 1 }; word = word; width = None })
 type-tokens word (Some b) =
-    fold-roll-TypeExpr (List Seen) (List Seen) (List Seen) kind_step expr_step type_step (record { span = record { line = 1; col = 1 }; word = word; width = Some b }) ∙ rw (spelled b.value) refl
+    fold-roll-TypeExpr (List Seen) (List Seen) (List Seen) kind_step expr_step type_step (record { span = record { line = 1; col = 1 }; word = word; width = Some b }) ∙ rw (spelled b) refl
 
-casts-fit : (p : Ptr) (h : Global) (f : Frac) → spell (placed (casts p h f)) ≡ casts_tokens f
-casts-fit p h f =
-    let four = boxed p h (Whole 4) in
-    let text = boxed p h (Text (codes "\"01\"")) in
-    let decimal = boxed p h (Decimal f) in
-    let whole = boxed p h (Cast (typed Int (Some four)) text) in
-    let test = boxed p h (Cast (typed BoolWord None) decimal) in
+casts-fit : (f : Frac) → spell (placed (casts f)) ≡ casts_tokens f
+casts-fit f =
+    let four = placed (Whole 4) in
+    let text = placed (Text (codes "\"01\"")) in
+    let decimal = placed (Decimal f) in
+    let whole = placed (Cast (typed Int (Some four)) text) in
+    let test = placed (Cast (typed BoolWord None) decimal) in
     rw (
-      spell-Binary (boxed p h (Unary Not whole)) Less test,
+      spell-Binary (placed (Unary Not whole)) Less test,
       spell-Unary Not whole,
       spell-Cast (typed Int (Some four)) text,
       spell-Cast (typed BoolWord None) decimal,

@@ -1,7 +1,5 @@
 -- Worked examples: a few expressions, and the tokens of each. This project's own.
-use Rattle.std.specs.Prelude.{List, [], ◌∷◌, true, codes, Box, Option, Some, None}
-use Rattle.std.specs.Global.{Global}
-use Rattle.std.specs.Ptr.{Ptr}
+use Rattle.std.specs.Prelude.{List, [], ◌∷◌, true, codes, Option, Some, None}
 use Rattle.qs_values.specs.declared.number.Frac.{Frac}
 use Rattle.qs_tree.specs.declared.operator.UnOp.TheVariants.{Neg, Not}
 use Rattle.qs_tree.specs.declared.operator.BinOp.TheVariants.{Power, Sub, Div, Less}
@@ -17,41 +15,41 @@ use Rattle.qs_tree.specs.Spelling.{Seen, Word, Sign, Quoted, Qubit, Integer, Fra
 abbrev pub placed : ExprKind → Expr
 placed kind = record { span = record { line = 1; col = 1 }; kind = kind }
 
--- the same behind a pointer, of which nothing counts but what stands there
-abbrev pub boxed : Ptr → Global → ExprKind → Box Expr Global
-boxed place heap kind = record { ptr = place; alloc = heap; value = placed kind }
-
 -- a type at such a place
-abbrev pub typed : TypeWord → Option (Box Expr Global) → TypeExpr
+abbrev pub typed : TypeWord → Option Expr → TypeExpr
 typed word width = roll-TypeExpr (record { span = record { line = 1; col = 1 }; word = word; width = width })
 
+-- the name `a`
 abbrev pub a : ExprKind
 a = Name (codes "a")
 
 -- `-(a - 1) ** 2`, whose minus is the loosest
-abbrev pub power : Ptr → Global → ExprKind
-power p h = Unary Neg (boxed p h (Binary (boxed p h (Group (boxed p h (Binary (boxed p h a) Sub (boxed p h (Whole 1)))))) Power (boxed p h (Whole 2))))
+abbrev pub power : ExprKind
+power = Unary Neg (placed (Binary (placed (Group (placed (Binary (placed a) Sub (placed (Whole 1)))))) Power (placed (Whole 2))))
 
+-- its tokens
 abbrev pub power_tokens : List Seen
 power_tokens = Sign (codes "-") ∷ Sign (codes "(") ∷ Word (codes "a") ∷ Sign (codes "-") ∷ Integer 1 ∷ Sign (codes ")") ∷ Sign (codes "**") ∷ Integer 2 ∷ []
 
 -- `f(a[3], true, $7) / g()`
-abbrev pub calls : Ptr → Global → ExprKind
-calls p h = Binary
-    (boxed p h (Call (codes "f") (placed (Index (codes "a") (boxed p h (Whole 3))) ∷ placed (Truth true) ∷ placed (Physical 7) ∷ [])))
-    Div (boxed p h (Call (codes "g") []))
+abbrev pub calls : ExprKind
+calls = Binary
+    (placed (Call (codes "f") (placed (Index (codes "a") (placed (Whole 3))) ∷ placed (Truth true) ∷ placed (Physical 7) ∷ [])))
+    Div (placed (Call (codes "g") []))
 
+-- its tokens
 abbrev pub calls_tokens : List Seen
 calls_tokens =
     Word (codes "f") ∷ Sign (codes "(") ∷ Word (codes "a") ∷ Sign (codes "[") ∷ Integer 3 ∷ Sign (codes "]") ∷ Sign (codes ",") ∷ Word (codes "true")
     ∷ Sign (codes ",") ∷ Qubit 7 ∷ Sign (codes ")") ∷ Sign (codes "/") ∷ Word (codes "g") ∷ Sign (codes "(") ∷ Sign (codes ")") ∷ []
 
 -- `!int[4]("01") < bool(f)` with a fraction f
-abbrev pub casts : Ptr → Global → Frac → ExprKind
-casts p h f = Binary
-    (boxed p h (Unary Not (boxed p h (Cast (typed Int (Some (boxed p h (Whole 4)))) (boxed p h (Text (codes "\"01\"")))))))
-    Less (boxed p h (Cast (typed BoolWord None) (boxed p h (Decimal f))))
+abbrev pub casts : Frac → ExprKind
+casts f = Binary
+    (placed (Unary Not (placed (Cast (typed Int (Some (placed (Whole 4)))) (placed (Text (codes "\"01\"")))))))
+    Less (placed (Cast (typed BoolWord None) (placed (Decimal f))))
 
+-- its tokens
 abbrev pub casts_tokens : Frac → List Seen
 casts_tokens f =
     Sign (codes "!") ∷ Word (codes "int") ∷ Sign (codes "[") ∷ Integer 4 ∷ Sign (codes "]") ∷ Sign (codes "(") ∷ Quoted (codes "\"01\"") ∷ Sign (codes ")")

@@ -1,5 +1,5 @@
 -- The tokens of an expression (OpenQASM 3.0, expressions). This project's own.
-use Rattle.std.specs.Prelude.{ℕ, List, [], ◌∷◌, ◌++◌, Bool, true, false, codes, option_map, Option, Some, None}
+use Rattle.std.specs.Prelude.{ℕ, List, [], ◌∷◌, ◌++◌, Bool, true, false, codes, Option, Some, None}
 use Rattle.qs_values.specs.declared.number.Frac.{Frac}
 use Rattle.qs_lexer.specs.declared.token.Token.{Token}
 use Rattle.qs_lexer.specs.declared.token.TokenKind.{TokenKind}
@@ -27,6 +27,7 @@ pub data Seen : Type 0 where
   Fraction : (value : Frac) → Seen
   Period : (value : Frac) → (unit : TimeUnit) → Seen
 
+-- what is seen of a token of a kind with a text
 abbrev pub seen_by : TokenKind → List ℕ → Seen
 seen_by kind.Word text = Word text
 seen_by (kind.Physical number) text = Qubit number
@@ -36,14 +37,17 @@ seen_by (kind.Time value unit) text = Period value unit
 seen_by kind.Text text = Quoted text
 seen_by kind.Sign text = Sign text
 
+-- what is seen of a token
 abbrev pub seen : Token → Seen
 seen t = seen_by t.kind t.text
 
+-- the sign before an operand
 abbrev pub sign_of_un : UnOp → List ℕ
 sign_of_un Not = codes "!"
 sign_of_un Neg = codes "-"
 sign_of_un Invert = codes "~"
 
+-- the sign between two operands
 abbrev pub sign_of_bin : BinOp → List ℕ
 sign_of_bin Power = codes "**"
 sign_of_bin Mul = codes "*"
@@ -65,6 +69,7 @@ sign_of_bin BitOr = codes "|"
 sign_of_bin And = codes "&&"
 sign_of_bin Or = codes "||"
 
+-- a type's word
 abbrev pub word_of_type : TypeWord → List ℕ
 word_of_type Bit = codes "bit"
 word_of_type Int = codes "int"
@@ -73,10 +78,12 @@ word_of_type Angle = codes "angle"
 word_of_type BoolWord = codes "bool"
 word_of_type Duration = codes "duration"
 
+-- the word of a truth value
 abbrev pub truth_word : Bool → List ℕ
 truth_word true = codes "true"
 truth_word false = codes "false"
 
+-- a sign alone
 abbrev pub signed : List ℕ → List Seen
 signed text = Sign text ∷ []
 
@@ -89,6 +96,7 @@ abbrev pub behind_commas : List (List Seen) → List Seen
 behind_commas [] = []
 behind_commas (x ∷ xs) = signed (codes ",") ++ x ++ behind_commas xs
 
+-- lists of tokens with commas between them
 abbrev pub with_commas : List (List Seen) → List Seen
 with_commas [] = []
 with_commas (x ∷ xs) = x ++ behind_commas xs
@@ -101,28 +109,32 @@ kind_step (Time value unit) = Period value unit ∷ []
 kind_step (Text text) = Quoted text ∷ []
 kind_step (Truth value) = Word (truth_word value) ∷ []
 kind_step (Name name) = Word name ∷ []
-kind_step (Index name index) = Word name ∷ enclosed (codes "[") index.value (codes "]")
+kind_step (Index name index) = Word name ∷ enclosed (codes "[") index (codes "]")
 kind_step (Physical number) = Qubit number ∷ []
 kind_step (Call name args) = Word name ∷ enclosed (codes "(") (with_commas args) (codes ")")
-kind_step (Cast type operand) = type ++ enclosed (codes "(") operand.value (codes ")")
-kind_step (Group inner) = enclosed (codes "(") inner.value (codes ")")
-kind_step (Unary op operand) = signed (sign_of_un op) ++ operand.value
-kind_step (Binary left op right) = left.value ++ signed (sign_of_bin op) ++ right.value
+kind_step (Cast type operand) = type ++ enclosed (codes "(") operand (codes ")")
+kind_step (Group inner) = enclosed (codes "(") inner (codes ")")
+kind_step (Unary op operand) = signed (sign_of_un op) ++ operand
+kind_step (Binary left op right) = left ++ signed (sign_of_bin op) ++ right
 kind_step (Number value) = []
 
+-- the width of a type in its brackets, where it has one
 abbrev pub width_tokens : Option (List Seen) → List Seen
 width_tokens None = []
 width_tokens (Some width) = enclosed (codes "[") width (codes "]")
 
+-- the tokens of an expression are those of what it is
 abbrev pub expr_step : Expr-F (List Seen) (List Seen) (List Seen) → List Seen
 expr_step e = e.kind
 
+-- one layer of a type, with the tokens of its width in their place
 abbrev pub type_step : TypeExpr-F (List Seen) (List Seen) (List Seen) → List Seen
-type_step t = Word (word_of_type t.word) ∷ width_tokens (option_map (λ b. b.value) t.width)
+type_step t = Word (word_of_type t.word) ∷ width_tokens t.width
 
--- the tokens of an expression
+-- the tokens of what an expression is
 abbrev pub spell_kind : ExprKind → List Seen
 spell_kind = fold-ExprKind (List Seen) (List Seen) (List Seen) kind_step expr_step type_step
 
+-- the tokens of an expression
 abbrev pub spell : Expr → List Seen
 spell e = spell_kind e.kind

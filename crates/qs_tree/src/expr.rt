@@ -1,6 +1,6 @@
 use crate::operator::{BinOp, UnOp};
 use qs_lexer::Unit;
-use qs_values::{Frac, List, Name, Num, Span};
+use qs_values::{Boxed, Frac, List, Name, Num, Span};
 
 /// An expression, at its first token.
 #[cycle(syntax)]
@@ -28,19 +28,19 @@ pub enum ExprKind {
     /// A name; `pi`, `π`, `tau` and `τ` are names of constants.
     Name(Name),
     /// A name with an index in brackets.
-    Index(Name, Box<Expr>),
+    Index(Name, Boxed<Expr>),
     /// A physical qubit, by its number.
     Physical(u32),
     /// A call of a function with its arguments.
     Call(Name, List<Expr>),
     /// A cast.
-    Cast(TypeExpr, Box<Expr>),
+    Cast(TypeExpr, Boxed<Expr>),
     /// An expression in brackets.
-    Group(Box<Expr>),
+    Group(Boxed<Expr>),
     /// A sign and its operand.
-    Unary(UnOp, Box<Expr>),
+    Unary(UnOp, Boxed<Expr>),
     /// Two operands with a sign between.
-    Binary(Box<Expr>, BinOp, Box<Expr>),
+    Binary(Boxed<Expr>, BinOp, Boxed<Expr>),
     /// A constant that is put in for a parameter; no source spells it.
     Number(Num),
 }
@@ -63,5 +63,5 @@ pub enum TypeWord {
 pub struct TypeExpr {
     pub span: Span,
     pub word: TypeWord,
-    pub width: Option<Box<Expr>>,
+    pub width: Option<Boxed<Expr>>,
 }
