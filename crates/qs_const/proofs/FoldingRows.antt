@@ -1,5 +1,5 @@
--- Small cases of the definitions: codes, names, texts, and which refusal comes first.
-use Rattle.std.proofs.Common.{◌≡◌, ℕ, [], ◌∷◌, true, false, Some, None, Ok, Err, refl, inl, inr, arith, pos}
+-- Small cases of the definitions: names, texts, and which refusal comes first.
+use Rattle.std.proofs.Common.{◌≡◌, ℕ, [], ◌∷◌, true, false, ◌≢◌, Some, None, Ok, Err, refl, inl, inr, arith, pos}
 use Rattle.std.specs.Prelude.{codes}
 use Rattle.std.proofs.lemmas.Int.{ints}
 use Rattle.qs_values.specs.declared.span.Span.{Span}
@@ -8,24 +8,15 @@ use Rattle.qs_values.specs.declared.number.Num.{Num}
 use Rattle.qs_values.specs.Number.{IsFrac, NumberIs}
 use Rattle.qs_values.specs.declared.refusal.NumRefusal.TheVariants.{ByZero as NoDivisor}
 use Rattle.qs_tree.specs.declared.constant.ConstVal.TheVariants.{Number, Truth, Bits}
-use Rattle.qs_tree.specs.declared.operator.UnOp.TheVariants.{Neg}
-use Rattle.qs_tree.specs.declared.operator.BinOp.TheVariants.{Add, Div}
-use Rattle.qs_const.specs.declared.made.Cause.{Cause}
-use Rattle.qs_const.specs.declared.made.Cause.TheVariants.{TooWide, PiTimesPi, ByZero, ByPi, BadPower, NotConst}
+use Rattle.qs_tree.specs.declared.operator.UnOp.TheVariants.{Neg, Not}
+use Rattle.qs_tree.specs.declared.operator.BinOp.TheVariants.{Add, Div, Power}
+use Rattle.qs_const.specs.declared.made.Cause.TheVariants.{ByZero, ByPi, BadPower, NotConst}
 use Rattle.qs_const.specs.declared.made.Made.TheVariants.{Gives, Breaks, Nothing}
-use Rattle.qs_const.specs.declared.folded.Folded.TheVariants.{Value, Refused, Neither}
+use Rattle.qs_const.specs.declared.folded.Folded.{Folded}
+use Rattle.qs_const.specs.declared.folded.Folded.TheVariants.{Value}
 use Rattle.qs_const.specs.Trees.{Integer, Truthful, Named, Signed, Joined}
-use Rattle.qs_const.specs.Folding.{Folds, code_of, constant_in, inner_text, refused_as, text_made, times_pi}
-use Rattle.qs_const.specs.Codes.{number_of}
-
--- a refusal has the number of its cause
-refused_number : (span : Span) (cause : Cause) → number_of (refused_as (record { span = span; cause = cause })) ≡ code_of cause
-refused_number span TooWide = refl
-refused_number span PiTimesPi = refl
-refused_number span ByZero = refl
-refused_number span ByPi = refl
-refused_number span BadPower = refl
-refused_number span NotConst = refl
+use Rattle.qs_const.specs.Folding.{Folds, constant_in, inner_text, text_made, times_pi}
+use Rattle.qs_const.specs.Outcomes.{without_value}
 
 -- ---- names and texts
 
@@ -55,12 +46,19 @@ at col = record { line = 1; col = col }
 is_zero : (f : Frac) → IsFrac (pos 0) (pos 1) f → f.num ≡ pos 0
 is_zero f h = omega (arith, ints, h.same)
 
+not_zero : (f : Frac) → IsFrac (pos 1) (pos 1) f → f.num ≢ pos 0
+not_zero f h zero = omega (arith, ints, h.same, h.above, zero)
+
+-- a name without a constant, and no value of any other kind
+abbrev unknown : ℕ → Folded
+unknown col = without_value (Some (record { span = at col; cause = NotConst })) false
+
 -- `z / 0`, without a constant z: the lower code at one place
 lower_code : (x : Num) → IsFrac (pos 0) (pos 1) x.plain → IsFrac (pos 0) (pos 1) x.pi →
-    Folds [] (Joined (at 1) (Named (at 1) (codes "z")) Div (Integer (at 5) 0)) (Refused (record { span = at 1; cause = ByZero }))
+    Folds [] (Joined (at 1) (Named (at 1) (codes "z")) Div (Integer (at 5) 0)) (without_value (Some (record { span = at 1; cause = ByZero })) false)
 lower_code x plain pi = (
   Breaks ByZero,
-  Refused (record { span = at 1; cause = NotConst }),
+  unknown 1,
   Value (Number x),
   (Breaks NotConst, refl, refl),
   (Gives (Number x), (Ok x, (plain, pi), refl), refl),
@@ -70,11 +68,11 @@ lower_code x plain pi = (
 
 -- `z + 1 / 0`: the name stands first
 first_place : (x y : Num) → NumberIs (pos 0) (pos 1) (pos 0) (pos 1) (Ok x) → NumberIs (pos 1) (pos 1) (pos 0) (pos 1) (Ok y) →
-    Folds [] (Joined (at 1) (Named (at 1) (codes "z")) Add (Joined (at 5) (Integer (at 5) 1) Div (Integer (at 9) 0))) (Refused (record { span = at 1; cause = NotConst }))
+    Folds [] (Joined (at 1) (Named (at 1) (codes "z")) Add (Joined (at 5) (Integer (at 5) 1) Div (Integer (at 9) 0))) (unknown 1)
 first_place x y zero one = (
   Nothing,
-  Refused (record { span = at 1; cause = NotConst }),
-  Refused (record { span = at 5; cause = ByZero }),
+  unknown 1,
+  without_value (Some (record { span = at 5; cause = ByZero })) false,
   (Breaks NotConst, refl, refl),
   (
     Breaks ByZero,
@@ -89,6 +87,32 @@ first_place x y zero one = (
   refl,
 )
 
+-- `1 ** z`: a power at run time, refused at its first token
+at_run_time : (x : Num) → NumberIs (pos 1) (pos 1) (pos 0) (pos 1) (Ok x) →
+    Folds [] (Joined (at 1) (Integer (at 1) 1) Power (Named (at 6) (codes "z"))) (without_value (Some (record { span = at 1; cause = BadPower })) false)
+at_run_time x one = (
+  Breaks BadPower,
+  Value (Number x),
+  unknown 6,
+  (Gives (Number x), (Ok x, one, refl), refl),
+  (Breaks NotConst, refl, refl),
+  refl,
+  refl,
+)
+
+-- `!z / pi`: no truth value is a multiple of pi
+no_multiple : (x : Num) → NumberIs (pos 0) (pos 1) (pos 1) (pos 1) (Ok x) →
+    Folds [] (Joined (at 1) (Signed (at 1) Not (Named (at 2) (codes "z"))) Div (Named (at 6) (codes "pi"))) (without_value (Some (record { span = at 1; cause = ByPi })) false)
+no_multiple x one = (
+  Breaks ByPi,
+  without_value (Some (record { span = at 2; cause = NotConst })) true,
+  Value (Number x),
+  (Nothing, unknown 2, (Breaks NotConst, refl, refl), refl, refl),
+  (Gives (Number x), (x, one, refl), refl),
+  inr (inl ((not_zero x.pi one.1, inl refl), refl)),
+  refl,
+)
+
 -- `-true` has no value, and none of the codes is its
-neither : Folds [] (Signed (at 1) Neg (Truthful true)) Neither
+neither : Folds [] (Signed (at 1) Neg (Truthful true)) (without_value None false)
 neither = (Nothing, Value (Truth true), refl, refl, refl)

@@ -1,5 +1,5 @@
 -- What an operation on constants makes is one thing.
-use Rattle.std.proofs.Common.{◌≡◌, ◌≢◌, ◌+◌, ◌*◌, ◌^◌, ◌<◌, ℕ, zero, suc, ap, sym, ◌∙◌, subst, arith, ℤ, pos, ◌+ℤ◌, ◌-ℤ◌, ◌*ℤ◌, ◌<ℤ◌, ◌≤ℤ◌, inl, inr, Bool, Option, Some, None, Result, Ok, Err}
+use Rattle.std.proofs.Common.{◌≡◌, ◌≢◌, ◌+◌, ◌*◌, ◌^◌, ◌<◌, ℕ, zero, suc, ap, sym, ◌∙◌, subst, arith, ℤ, pos, ◌+ℤ◌, ◌-ℤ◌, ◌*ℤ◌, ◌<ℤ◌, ◌≤ℤ◌, inl, inr, Bool, true≢false, Option, Some, None, Result, Ok, Err}
 use Rattle.std.proofs.Math.Nat.{lt_of_mul-lt-mul_right}
 use Rattle.std.proofs.lemmas.Int.{ints}
 use borrow.Author.Differences.{up, down}
@@ -13,7 +13,10 @@ use Rattle.qs_tree.specs.declared.operator.BinOp.{BinOp}
 use Rattle.qs_tree.specs.declared.operator.BinOp.TheVariants.{Power, Mul, Div, Rem, Add, Sub, ShiftLeft, ShiftRight, Less, LessEqual, Greater, GreaterEqual, Equal, NotEqual, BitAnd, BitXor, BitOr, And, Or}
 use Rattle.qs_const.specs.declared.made.Made.{Made}
 use Rattle.qs_const.specs.declared.made.Made.TheVariants.{Gives}
-use Rattle.qs_const.specs.Operations.{ByResult, DividesOther, IsCount, IsExponent, IsNoExponent, IsNotWhole, IsOutside, IsPower, IsWhole, MakesNumber, MakesWhole, OfAlike, OfNumbers, OfTruths, OfWholes, OnWholes, PairMakes, PowerMakes, QuotientMakes, RaisedIs, RemainderMakes, Remains, ShiftMakes, ShiftedIs, ShiftsDown, ShiftsUp, SignIs, Times, number_made}
+use Rattle.qs_const.specs.declared.folded.Folded.{Folded}
+use Rattle.qs_const.specs.declared.folded.Folded.TheVariants.{Value, Absent}
+use Rattle.qs_const.specs.Outcomes.{value_of}
+use Rattle.qs_const.specs.Operations.{ByResult, DividesOther, HasNoQuotient, IsCount, IsExponent, IsNoExponent, IsNothing, IsNotWhole, IsOutside, IsPower, IsWhole, MakesNumber, MakesWhole, MayHaveQuotient, OfAlike, OfNumbers, OfTruths, OfWholes, OnWholes, PairMakes, PowerMakes, QuotientMakes, RaisedIs, RemainderMakes, Remains, ShiftMakes, ShiftedIs, ShiftsDown, ShiftsUp, SignIs, Times, number_made}
 use Rattle.qs_values.proofs.OneNumber.{difference_once, nonzero_den, number_once, one_nonzero, product_once, ratio_once, sum_once}
 
 -- a relation that at most one thing meets
@@ -104,31 +107,36 @@ of_alike op test (Some (Truth a)) (Some (Truth b)) m n p q = p ∙ sym q
 
 -- ---- quotients and remainders
 
-divides_other : (left : Option ConstVal) (y : Num) → Once (DividesOther left y)
+-- a divisor that refuses a dividend isn't 0, and has no quotient
+refuses_nothing : (left : Folded) (y : Num) → HasNoQuotient left y → IsNothing y → ⊥
+refuses_nothing (Value v) y h none = h none.1
+refuses_nothing (Absent a) y h none = h.0 none.1
+
+refuses_apart : (left : Folded) (y : Num) → HasNoQuotient left y → MayHaveQuotient left y → ⊥
+refuses_apart (Value v) y h may = h may
+refuses_apart (Absent a) y h (inl none) = h.0 none
+refuses_apart (Absent a) y (h, inl truth) (inr may) = true≢false (sym truth ∙ may.0)
+refuses_apart (Absent a) y (h, inr plain) (inr may) = plain may.1
+
+divides_other : (left : Folded) (y : Num) → Once (DividesOther left y)
 divides_other left y m n (inl (a, e)) (inl (b, f)) = e ∙ sym f
-divides_other None y m n (inl (a, e)) (inr (inl (b, f))) = absurd (b.0 a.1)
-divides_other (Some v) y m n (inl (a, e)) (inr (inl (b, f))) = absurd (b a.1)
+divides_other left y m n (inl (a, e)) (inr (inl (b, f))) = absurd (refuses_nothing left y b a)
 divides_other left y m n (inl (a, e)) (inr (inr (b, c, f))) = absurd (b a)
-divides_other None y m n (inr (inl (a, e))) (inl (b, f)) = absurd (a.0 b.1)
-divides_other (Some v) y m n (inr (inl (a, e))) (inl (b, f)) = absurd (a b.1)
+divides_other left y m n (inr (inl (a, e))) (inl (b, f)) = absurd (refuses_nothing left y a b)
 divides_other left y m n (inr (inl (a, e))) (inr (inl (b, f))) = e ∙ sym f
-divides_other None y m n (inr (inl (a, e))) (inr (inr (b, inl c, f))) = absurd (a.0 c)
-divides_other None y m n (inr (inl (a, e))) (inr (inr (b, inr c, f))) = absurd (a.1 c)
-divides_other (Some v) y m n (inr (inl (a, e))) (inr (inr (b, c, f))) = absurd (a c)
+divides_other left y m n (inr (inl (a, e))) (inr (inr (b, c, f))) = absurd (refuses_apart left y a c)
 divides_other left y m n (inr (inr (a, c, e))) (inl (b, f)) = absurd (a b)
-divides_other None y m n (inr (inr (a, inl c, e))) (inr (inl (b, f))) = absurd (b.0 c)
-divides_other None y m n (inr (inr (a, inr c, e))) (inr (inl (b, f))) = absurd (b.1 c)
-divides_other (Some v) y m n (inr (inr (a, c, e))) (inr (inl (b, f))) = absurd (b c)
+divides_other left y m n (inr (inr (a, c, e))) (inr (inl (b, f))) = absurd (refuses_apart left y b c)
 divides_other left y m n (inr (inr (a, c, e))) (inr (inr (b, d, f))) = e ∙ sym f
 
-quotient_once : (left right : Option ConstVal) → Once (QuotientMakes left right)
+quotient_once : (left : Folded) (right : Option ConstVal) → Once (QuotientMakes left right)
 quotient_once left None m n p q = p ∙ sym q
 quotient_once left (Some (Truth b)) m n p q = p ∙ sym q
 quotient_once left (Some (Bits b)) m n p q = p ∙ sym q
-quotient_once None (Some (Number y)) m n p q = divides_other None y m n p q
-quotient_once (Some (Truth b)) (Some (Number y)) m n p q = divides_other (Some (Truth b)) y m n p q
-quotient_once (Some (Bits b)) (Some (Number y)) m n p q = divides_other (Some (Bits b)) y m n p q
-quotient_once (Some (Number x)) (Some (Number y)) m n p q = by_result _ ratio_once x y m n p q
+quotient_once (Absent a) (Some (Number y)) m n p q = divides_other (Absent a) y m n p q
+quotient_once (Value (Truth b)) (Some (Number y)) m n p q = divides_other (Value (Truth b)) y m n p q
+quotient_once (Value (Bits b)) (Some (Number y)) m n p q = divides_other (Value (Bits b)) y m n p q
+quotient_once (Value (Number x)) (Some (Number y)) m n p q = by_result _ ratio_once x y m n p q
 
 remainder_once : (left right : Option ConstVal) → Once (RemainderMakes left right)
 remainder_once left None m n p q = p ∙ sym q
@@ -168,9 +176,9 @@ shifted_once Shifts once (Some (Number x)) n m o (inl (j, a, h)) (inr (parted, f
 shifted_once Shifts once (Some (Number x)) n m o (inr (parted, e)) (inl (k, b, g)) = absurd (whole_not x k b parted)
 shifted_once Shifts once (Some (Number x)) n m o (inr (parted, e)) (inr (also, f)) = e ∙ sym f
 
-count_not_outside : (y : Num) (k : ℤ) (n : ℕ) → IsWhole y k → IsOutside k → IsCount y n → ⊥
-count_not_outside y k n is (inl low) count = omega (arith, ints, whole_is y k (pos n) is count.0, low)
-count_not_outside y k n is (inr high) count = omega (arith, ints, whole_is y k (pos n) is count.0, high, count.1)
+count_not_outside : (y : Num) (n : ℕ) → IsOutside y → IsCount y n → ⊥
+count_not_outside y n (pi, inl low) count = omega (arith, ints, count.0.2, low)
+count_not_outside y n (pi, inr high) count = omega (arith, ints, count.0.1, count.0.2, high, count.1)
 
 count_is : (y : Num) (m n : ℕ) → IsCount y m → IsCount y n → m ≡ n
 count_is y m n a b = omega (arith, ints, whole_is y (pos m) (pos n) a.0 b.0)
@@ -179,16 +187,16 @@ shift_once : (Shifts : ℤ → ℕ → Made → Type 0) → ((j : ℤ) (n : ℕ)
 shift_once Shifts once left None m o p q = p ∙ sym q
 shift_once Shifts once left (Some (Truth b)) m o p q = p ∙ sym q
 shift_once Shifts once left (Some (Bits b)) m o p q = p ∙ sym q
-shift_once Shifts once left (Some (Number y)) m o (inl (parted, e)) (inl (also, f)) = e ∙ sym f
-shift_once Shifts once left (Some (Number y)) m o (inl (parted, e)) (inr (inl (k, a, b, f))) = absurd (whole_not y k a parted)
-shift_once Shifts once left (Some (Number y)) m o (inl (parted, e)) (inr (inr (n, a, h))) = absurd (whole_not y (pos n) a.0 parted)
-shift_once Shifts once left (Some (Number y)) m o (inr (inl (k, a, b, e))) (inl (parted, f)) = absurd (whole_not y k a parted)
-shift_once Shifts once left (Some (Number y)) m o (inr (inl (k, a, b, e))) (inr (inl (l, c, d, f))) = e ∙ sym f
-shift_once Shifts once left (Some (Number y)) m o (inr (inl (k, a, b, e))) (inr (inr (n, c, h))) = absurd (count_not_outside y k n a b c)
-shift_once Shifts once left (Some (Number y)) m o (inr (inr (n, a, h))) (inl (parted, f)) = absurd (whole_not y (pos n) a.0 parted)
-shift_once Shifts once left (Some (Number y)) m o (inr (inr (n, a, h))) (inr (inl (k, c, d, f))) = absurd (count_not_outside y k n c d a)
-shift_once Shifts once left (Some (Number y)) m o (inr (inr (n, a, h))) (inr (inr (i, c, g))) =
+shift_once Shifts once left (Some (Number y)) m o (inl (a, e)) (inl (b, f)) = e ∙ sym f
+shift_once Shifts once left (Some (Number y)) m o (inl (a, e)) (inr (inl (n, b, h))) = absurd (count_not_outside y n a b)
+shift_once Shifts once left (Some (Number y)) m o (inl (a, e)) (inr (inr (parted, b, f))) = absurd (b a)
+shift_once Shifts once left (Some (Number y)) m o (inr (inl (n, a, h))) (inl (b, f)) = absurd (count_not_outside y n b a)
+shift_once Shifts once left (Some (Number y)) m o (inr (inl (n, a, h))) (inr (inl (i, c, g))) =
     shifted_once Shifts once left n m o h (subst (λ z. ShiftedIs Shifts left z o) (count_is y i n c a) g)
+shift_once Shifts once left (Some (Number y)) m o (inr (inl (n, a, h))) (inr (inr (parted, b, f))) = absurd (whole_not y (pos n) a.0 parted)
+shift_once Shifts once left (Some (Number y)) m o (inr (inr (parted, a, e))) (inl (b, f)) = absurd (a b)
+shift_once Shifts once left (Some (Number y)) m o (inr (inr (parted, a, e))) (inr (inl (n, b, h))) = absurd (whole_not y (pos n) b.0 parted)
+shift_once Shifts once left (Some (Number y)) m o (inr (inr (parted, a, e))) (inr (inr (also, b, f))) = e ∙ sym f
 
 -- ---- powers
 
@@ -202,15 +210,15 @@ power_once : (x : Num) (n : ℕ) (r s : Result Num NumRefusal) → IsPower x n r
 power_once x zero r s h k = number_once _ _ _ _ r s one_nonzero one_nonzero h k
 power_once x (suc n) r s (a, p, h) (b, q, k) = times_once a b x r s (power_once x n a b p q) h k
 
-raised_once : (left : Option ConstVal) (n : ℕ) → Once (RaisedIs left n)
-raised_once None n m o p q = p ∙ sym q
-raised_once (Some (Truth b)) n m o p q = p ∙ sym q
-raised_once (Some (Bits b)) n m o p q = p ∙ sym q
-raised_once (Some (Number x)) n m o (r, is, e) (s, also, f) = e ∙ ap number_made (power_once x n r s is also) ∙ sym f
+raised_once : (left : Folded) (n : ℕ) → Once (RaisedIs left n)
+raised_once (Absent a) n m o p q = p ∙ sym q
+raised_once (Value (Truth b)) n m o p q = p ∙ sym q
+raised_once (Value (Bits b)) n m o p q = p ∙ sym q
+raised_once (Value (Number x)) n m o (r, is, e) (s, also, f) = e ∙ ap number_made (power_once x n r s is also) ∙ sym f
 
 no_exponent : (v : ConstVal) (n : ℕ) → IsNoExponent v → IsExponent v n → ⊥
 no_exponent (Number y) n (inl parted) count = whole_not y (pos n) count.0 parted
-no_exponent (Number y) n (inr (k, a, b)) count = count_not_outside y k n a b count
+no_exponent (Number y) n (inr outside) count = count_not_outside y n outside count
 no_exponent (Truth b) n h count = count
 no_exponent (Bits b) n h count = count
 
@@ -219,32 +227,32 @@ exponent_is (Number y) m n a b = count_is y m n a b
 exponent_is (Truth b) m n a c = absurd a
 exponent_is (Bits b) m n a c = absurd a
 
-powers_once : (left right : Option ConstVal) → Once (PowerMakes left right)
-powers_once left None m o p q = p ∙ sym q
-powers_once left (Some v) m o (inl (a, e)) (inl (b, f)) = e ∙ sym f
-powers_once left (Some v) m o (inl (a, e)) (inr (n, b, h)) = absurd (no_exponent v n a b)
-powers_once left (Some v) m o (inr (n, a, h)) (inl (b, f)) = absurd (no_exponent v n b a)
-powers_once left (Some v) m o (inr (n, a, h)) (inr (i, b, g)) = raised_once left n m o h (subst (λ z. RaisedIs left z o) (exponent_is v i n b a) g)
+powers_once : (left right : Folded) → Once (PowerMakes left right)
+powers_once left (Absent a) m o p q = p ∙ sym q
+powers_once left (Value v) m o (inl (a, e)) (inl (b, f)) = e ∙ sym f
+powers_once left (Value v) m o (inl (a, e)) (inr (n, b, h)) = absurd (no_exponent v n a b)
+powers_once left (Value v) m o (inr (n, a, h)) (inl (b, f)) = absurd (no_exponent v n b a)
+powers_once left (Value v) m o (inr (n, a, h)) (inr (i, b, g)) = raised_once left n m o h (subst (λ z. RaisedIs left z o) (exponent_is v i n b a) g)
 
 -- ---- all of them
 
-pub pair_once : (op : BinOp) (left right : Option ConstVal) → Once (PairMakes op left right)
+pub pair_once : (op : BinOp) (left right : Folded) → Once (PairMakes op left right)
 pair_once Power left right = powers_once left right
-pair_once Mul left right = of_numbers _ (by_result _ product_once) left right
-pair_once Div left right = quotient_once left right
-pair_once Rem left right = remainder_once left right
-pair_once Add left right = of_numbers _ (by_result _ sum_once) left right
-pair_once Sub left right = of_numbers _ (by_result _ difference_once) left right
-pair_once ShiftLeft left right = shift_once ShiftsUp (λ j n. makes_whole _) left right
-pair_once ShiftRight left right = shift_once ShiftsDown shifts_down left right
-pair_once Less left right = compared _ left right
-pair_once LessEqual left right = compared _ left right
-pair_once Greater left right = compared _ left right
-pair_once GreaterEqual left right = compared _ left right
-pair_once Equal left right = of_alike _ _ left right
-pair_once NotEqual left right = of_alike _ _ left right
-pair_once BitAnd left right = of_wholes _ (λ j k. makes_whole _) left right
-pair_once BitXor left right = of_wholes _ (λ j k. makes_whole _) left right
-pair_once BitOr left right = of_wholes _ (λ j k. makes_whole _) left right
-pair_once And left right = of_truths _ left right
-pair_once Or left right = of_truths _ left right
+pair_once Mul left right = of_numbers _ (by_result _ product_once) (value_of left) (value_of right)
+pair_once Div left right = quotient_once left (value_of right)
+pair_once Rem left right = remainder_once (value_of left) (value_of right)
+pair_once Add left right = of_numbers _ (by_result _ sum_once) (value_of left) (value_of right)
+pair_once Sub left right = of_numbers _ (by_result _ difference_once) (value_of left) (value_of right)
+pair_once ShiftLeft left right = shift_once ShiftsUp (λ j n. makes_whole _) (value_of left) (value_of right)
+pair_once ShiftRight left right = shift_once ShiftsDown shifts_down (value_of left) (value_of right)
+pair_once Less left right = compared _ (value_of left) (value_of right)
+pair_once LessEqual left right = compared _ (value_of left) (value_of right)
+pair_once Greater left right = compared _ (value_of left) (value_of right)
+pair_once GreaterEqual left right = compared _ (value_of left) (value_of right)
+pair_once Equal left right = of_alike _ _ (value_of left) (value_of right)
+pair_once NotEqual left right = of_alike _ _ (value_of left) (value_of right)
+pair_once BitAnd left right = of_wholes _ (λ j k. makes_whole _) (value_of left) (value_of right)
+pair_once BitXor left right = of_wholes _ (λ j k. makes_whole _) (value_of left) (value_of right)
+pair_once BitOr left right = of_wholes _ (λ j k. makes_whole _) (value_of left) (value_of right)
+pair_once And left right = of_truths _ (value_of left) (value_of right)
+pair_once Or left right = of_truths _ (value_of left) (value_of right)

@@ -1,17 +1,17 @@
 -- A constant expression comes to one thing.
-use Rattle.std.proofs.Common.{◌≡◌, ℕ, List, refl, ap, sym, ◌∙◌, subst, inl, inr, ◌⊎◌, pos, Option, Some, None, Ok}
+use Rattle.std.proofs.Common.{◌≡◌, ℕ, List, false, refl, ap, sym, ◌∙◌, subst, inl, inr, ◌⊎◌, pos, Option, Some, None, Ok}
 use Rattle.qs_values.specs.declared.span.Span.{Span}
 use Rattle.qs_tree.specs.declared.constant.Const.{Const}
 use Rattle.qs_tree.specs.declared.constant.Consts.{Consts}
-use Rattle.qs_tree.specs.declared.constant.ConstVal.{ConstVal}
 use Rattle.qs_tree.specs.declared.constant.ConstVal.TheVariants.{Number}
 use Rattle.qs_tree.specs.declared.expr.Expr.{Expr}
 use Rattle.qs_const.specs.declared.made.Made.{Made}
 use Rattle.qs_const.specs.declared.folded.Folded.{Folded}
-use Rattle.qs_const.specs.declared.folded.Folded.TheVariants.{Value, Refused, Neither}
-use Rattle.qs_const.specs.declared.folded.Fault.{Fault}
+use Rattle.qs_const.specs.declared.folded.Folded.TheVariants.{Value}
+use Rattle.qs_tree.specs.Truths.{bin_gives_truth, un_gives_truth}
+use Rattle.qs_const.specs.Outcomes.{value_of}
 use Rattle.qs_const.specs.Trees.{Tree, Integer, Fraction, Given, Quoted, Truthful, Named, Indexed, Enclosed, Signed, Joined, Other, tree_of}
-use Rattle.qs_const.specs.Folding.{Folds, IndexMakes, IsFoldable, NameMakes, constant_in, one_folded, own_fault, times_pi, two_folded, unless_fault, value_of}
+use Rattle.qs_const.specs.Folding.{Folds, IndexMakes, IsFoldable, IsTold, NameMakes, alone_folded, constant_in, one_folded, times_pi, two_folded}
 use Rattle.qs_const.specs.Operations.{PairMakes, SignIs}
 use Rattle.qs_values.proofs.OneNumber.{number_once, one_nonzero, one_zero, same_number}
 use Rattle.qs_const.proofs.OneMade.{Once, makes_whole, pair_once, sign_once}
@@ -46,8 +46,8 @@ index_once consts name m n p q = elim (option_case (times_pi name)) [
 
 -- ---- all of it
 
-alone : (P : Made → Type 0) → Once P → (span : Span) (m n : Made) (f g : Folded) → P m → f ≡ unless_fault (own_fault span m) m → P n → g ≡ unless_fault (own_fault span n) n → f ≡ g
-alone P once span m n f g p e q d = e ∙ ap (λ z. unless_fault (own_fault span z) z) (once m n p q) ∙ sym d
+alone : (P : Made → Type 0) → Once P → (span : Span) (m n : Made) (f g : Folded) → P m → f ≡ alone_folded span m → P n → g ≡ alone_folded span n → f ≡ g
+alone P once span m n f g p e q d = e ∙ ap (alone_folded span) (once m n p q) ∙ sym d
 
 pub folds_once : (consts : List Const) (t : Tree) (f g : Folded) → Folds consts t f → Folds consts t g → f ≡ g
 folds_once consts (Integer span k) f g (m, p, e) (n, q, d) = alone _ (makes_whole (pos k)) span m n f g p e q d
@@ -59,20 +59,20 @@ folds_once consts (Named span name) f g (m, p, e) (n, q, d) = alone _ (name_once
 folds_once consts (Indexed span name index) f g (m, i, p, a, e) (n, j, q, b, d) =
     let made = index_once consts name m n p q in
     let inner = folds_once consts index i j a b in
-    e ∙ ap (λ z. one_folded span z i) made ∙ ap (one_folded span n) inner ∙ sym d
+    e ∙ ap (λ z. one_folded false span z i) made ∙ ap (one_folded false span n) inner ∙ sym d
 folds_once consts (Enclosed inner) f g a b = folds_once consts inner f g a b
 folds_once consts (Signed span op operand) f g (m, x, a, p, e) (n, y, b, q, d) =
     let inner = folds_once consts operand x y a b in
     let made = sign_once op (value_of y) m n (subst (λ z. SignIs op (value_of z) m) inner p) q in
-    e ∙ ap (λ z. one_folded span z x) made ∙ ap (one_folded span n) inner ∙ sym d
+    e ∙ ap (λ z. one_folded (un_gives_truth op) span z x) made ∙ ap (one_folded (un_gives_truth op) span n) inner ∙ sym d
 folds_once consts (Joined span left op right) f g (m, x, y, a, b, p, e) (n, z, w, c, o, q, d) =
     let first = folds_once consts left x z a c in
     let second = folds_once consts right y w b o in
-    let made = pair_once op (value_of z) (value_of w) m n (subst (λ u. PairMakes op (value_of u) (value_of w) m) first (subst (λ u. PairMakes op (value_of x) (value_of u) m) second p)) q in
-    e ∙ ap (λ u. two_folded span u x y) made ∙ ap (λ u. two_folded span n u y) first ∙ ap (two_folded span n z) second ∙ sym d
+    let made = pair_once op z w m n (subst (λ u. PairMakes op u w m) first (subst (λ u. PairMakes op x u m) second p)) q in
+    let folded = two_folded (bin_gives_truth op) span in
+    e ∙ ap (λ u. folded u x y) made ∙ ap (λ u. folded n u y) first ∙ ap (folded n z) second ∙ sym d
 folds_once consts Other f g e d = e ∙ sym d
 
 -- what comes to a value or a refusal may be folded
-pub foldable : (e : Expr) (consts : Consts) (g : Folded) → Folds consts.list (tree_of e) g → ((v : ConstVal) × (g ≡ Value v)) ⊎ ((fault : Fault) × (g ≡ Refused fault)) → IsFoldable e consts
-foldable e consts g is (inl value) f folds none = let same : Value value.0 ≡ Neither = sym value.1 ∙ folds_once consts.list (tree_of e) g f is folds ∙ none in absurd cc
-foldable e consts g is (inr refused) f folds none = let same : Refused refused.0 ≡ Neither = sym refused.1 ∙ folds_once consts.list (tree_of e) g f is folds ∙ none in absurd cc
+pub foldable : (e : Expr) (consts : Consts) (g : Folded) → Folds consts.list (tree_of e) g → IsTold g → IsFoldable e consts
+foldable e consts g is told f folds = subst IsTold (folds_once consts.list (tree_of e) g f is folds) told

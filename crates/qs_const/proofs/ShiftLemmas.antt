@@ -1,5 +1,5 @@
 -- Shifts of whole numbers.
-use Rattle.std.proofs.Common.{◌≡◌, ◌+◌, ◌*◌, ◌/◌, ◌%◌, ◌^◌, ◌<◌, ◌≤◌, ℕ, zero, suc, ℤ, pos, negsuc, ◌+ℤ◌, ◌*ℤ◌, ◌≤ℤ◌, ◌<ℤ◌, unsigned_abs, Option, Some, None, inl, inr, refl, sym, ◌∙◌, arith, FitsSigned, to_z, of_z}
+use Rattle.std.proofs.Common.{◌≡◌, ◌+◌, ◌*◌, ◌/◌, ◌%◌, ◌^◌, ◌<◌, ◌≤◌, ℕ, zero, suc, ℤ, pos, negsuc, ◌+ℤ◌, ◌*ℤ◌, ◌≤ℤ◌, ◌<ℤ◌, unsigned_abs, Option, Some, None, inl, inr, refl, arith, FitsSigned, to_z, of_z}
 use mir.Syntax.{Width, w64, w128}
 use lib.Signed.{mag_shr, shr_z}
 use Rattle.std.proofs.Math.Nat.{pow-le-pow_right}
@@ -10,7 +10,7 @@ use Rattle.qs_tree.specs.declared.constant.ConstVal.{ConstVal}
 use Rattle.qs_tree.specs.declared.constant.ConstVal.TheVariants.{Number, Truth, Bits}
 use Rattle.qs_const.specs.declared.made.Made.{Made}
 use Rattle.qs_const.specs.Operations.{ShiftMakes}
-use Rattle.qs_const.specs.Wholes.{OperandIs, CountIs}
+use Rattle.qs_const.specs.Wholes.{CountIs, OperandIs}
 use Rattle.qs_const.proofs.WholeLemmas.{fits_i64, widened}
 
 -- a number that fits still does after a shift to the right
@@ -58,15 +58,20 @@ shift_down_coded j n p =
     let fits = fits_i64 j p in
     rw (to_z-of_z w64 j fits, widened (of_z w64 (shr_z j (2 ^ n)))) (to_z-of_z w64 (shr_z j (2 ^ n)) (shr_fits w64 j (2 ^ n) fits))
 
--- what a whole operand and a count make, where the code passes the count's number through its bits
-pub on_shift : (Shifts : ℤ → ℕ → Made → Type 0) (left right : Option ConstVal) (j k : ℤ) (n : ℕ) (made : Made)
-    → OperandIs left (Some j) → OperandIs right (Some k) → CountIs (to_z w64 (of_z w64 k)) (Some n) → Shifts j n made → ShiftMakes Shifts left right made
-on_shift Shifts (Some (Number x)) (Some (Number y)) j k n made p q r h =
-    let same : k ≡ pos n = sym (to_z-of_z w64 k (fits_i64 k q.1)) ∙ r.0 in
-    inr (inr (n, ((q.0.0, q.0.1, q.0.2 ∙ same), r.1), inl (j, p.0, h)))
-on_shift Shifts (Some (Truth b)) (Some (Number y)) j k n made p q r h = absurd cc
-on_shift Shifts (Some (Bits b)) (Some (Number y)) j k n made p q r h = absurd cc
-on_shift Shifts None (Some (Number y)) j k n made p q r h = absurd cc
-on_shift Shifts left (Some (Truth b)) j k n made p q r h = absurd cc
-on_shift Shifts left (Some (Bits b)) j k n made p q r h = absurd cc
-on_shift Shifts left None j k n made p q r h = absurd cc
+-- a count is at most 63
+pub count_below : (v : Option ConstVal) (n : ℕ) → CountIs v (Some n) → n ≤ 63
+count_below (Some (Number y)) n h = h.1
+count_below (Some (Truth b)) n h = absurd h
+count_below (Some (Bits b)) n h = absurd h
+count_below None n h = absurd cc
+
+-- what a whole operand and a count make
+pub on_shift : (Shifts : ℤ → ℕ → Made → Type 0) (left right : Option ConstVal) (j : ℤ) (n : ℕ) (made : Made)
+    → OperandIs left (Some j) → CountIs right (Some n) → Shifts j n made → ShiftMakes Shifts left right made
+on_shift Shifts (Some (Number x)) (Some (Number y)) j n made p q h = inr (inl (n, q, inl (j, p.0, h)))
+on_shift Shifts (Some (Truth b)) (Some (Number y)) j n made p q h = absurd cc
+on_shift Shifts (Some (Bits b)) (Some (Number y)) j n made p q h = absurd cc
+on_shift Shifts None (Some (Number y)) j n made p q h = absurd cc
+on_shift Shifts left (Some (Truth b)) j n made p q h = absurd q
+on_shift Shifts left (Some (Bits b)) j n made p q h = absurd q
+on_shift Shifts left None j n made p q h = absurd cc

@@ -1,14 +1,30 @@
--- The numbers of the refusals of constant expressions. This project's own.
-use Rattle.std.specs.Prelude.{ℕ}
+-- The numbers of the refusals of constant expressions, and their places. This project's own.
+use Rattle.std.specs.Prelude.{ℕ, Option, Some, None}
+use Rattle.qs_const.specs.declared.made.Cause.{Cause}
+use Rattle.qs_const.specs.declared.made.Cause.TheVariants as cause
+use Rattle.qs_const.specs.declared.folded.Fault.{Fault}
 use Rattle.qs_const.specs.declared.refusal.ConstRefusal.{ConstRefusal}
 use Rattle.qs_const.specs.declared.refusal.ConstRefusal.TheVariants.{TooWide, PiTimesPi, ByZero, ByPi, BadPower, NotConst, Memory}
 
+-- the number of a cause
+abbrev pub code_of : Cause → ℕ
+code_of cause.TooWide = 121
+code_of cause.PiTimesPi = 122
+code_of cause.ByZero = 123
+code_of cause.ByPi = 124
+code_of cause.BadPower = 125
+code_of cause.NotConst = 126
+
+-- the fault that a refusal tells: want of memory tells none
+abbrev pub fault_told : ConstRefusal → Option Fault
+fault_told (TooWide span) = Some (record { span = span; cause = cause.TooWide })
+fault_told (PiTimesPi span) = Some (record { span = span; cause = cause.PiTimesPi })
+fault_told (ByZero span) = Some (record { span = span; cause = cause.ByZero })
+fault_told (ByPi span) = Some (record { span = span; cause = cause.ByPi })
+fault_told (BadPower span) = Some (record { span = span; cause = cause.BadPower })
+fault_told (NotConst span) = Some (record { span = span; cause = cause.NotConst })
+fault_told Memory = None
+
 -- the number of a refusal, and 0 for want of memory
 abbrev pub number_of : ConstRefusal → ℕ
-number_of (TooWide span) = 121
-number_of (PiTimesPi span) = 122
-number_of (ByZero span) = 123
-number_of (ByPi span) = 124
-number_of (BadPower span) = 125
-number_of (NotConst span) = 126
-number_of Memory = 0
+number_of r = elim (fault_told r) [ Some fault ↦ code_of fault.cause | None ↦ 0 ]

@@ -11,36 +11,18 @@ use Rattle.qs_tree.specs.declared.constant.Consts.{Consts}
 use Rattle.qs_tree.specs.declared.constant.ConstVal.{ConstVal}
 use Rattle.qs_tree.specs.declared.constant.ConstVal.TheVariants.{Number, Truth, Bits}
 use Rattle.qs_tree.specs.declared.expr.Expr.{Expr}
-use Rattle.qs_const.specs.declared.made.Cause.{Cause}
-use Rattle.qs_const.specs.declared.made.Cause.TheVariants.{TooWide, PiTimesPi, ByZero, ByPi, BadPower, NotConst}
+use Rattle.qs_const.specs.declared.made.Cause.TheVariants.{NotConst}
 use Rattle.qs_const.specs.declared.made.Made.{Made}
 use Rattle.qs_const.specs.declared.made.Made.TheVariants.{Gives, Breaks, Nothing}
 use Rattle.qs_const.specs.declared.folded.Fault.{Fault}
 use Rattle.qs_const.specs.declared.folded.Folded.{Folded}
-use Rattle.qs_const.specs.declared.folded.Folded.TheVariants.{Value, Refused, Neither}
+use Rattle.qs_const.specs.declared.folded.Folded.TheVariants.{Value, Absent}
 use Rattle.qs_const.specs.declared.refusal.ConstRefusal.{ConstRefusal}
-use Rattle.qs_const.specs.declared.refusal.ConstRefusal.TheVariants as refusal
 use Rattle.qs_const.specs.Trees.{Tree, Integer, Fraction, Given, Quoted, Truthful, Named, Indexed, Enclosed, Signed, Joined, Other, tree_of}
+use Rattle.qs_tree.specs.Truths.{bin_gives_truth, un_gives_truth}
+use Rattle.qs_const.specs.Codes.{code_of, fault_told}
+use Rattle.qs_const.specs.Outcomes.{fault_of, value_of, without_value}
 use Rattle.qs_const.specs.Operations.{MakesWhole, PairMakes, SignIs}
-
--- the value and the refusal that a part has, where it has one
-abbrev pub value_of : Folded → Option ConstVal
-value_of (Value v) = Some v
-value_of (Refused fault) = None
-value_of Neither = None
-
-abbrev pub fault_of : Folded → Option Fault
-fault_of (Value v) = None
-fault_of (Refused fault) = Some fault
-fault_of Neither = None
-
-abbrev pub code_of : Cause → ℕ
-code_of TooWide = 121
-code_of PiTimesPi = 122
-code_of ByZero = 123
-code_of ByPi = 124
-code_of BadPower = 125
-code_of NotConst = 126
 
 -- whether a refusal comes before another: it stands before it in the text, or at the same place with a lower code
 abbrev pub is_before : Fault → Fault → Bool
@@ -60,22 +42,28 @@ own_fault span (Gives v) = None
 own_fault span (Breaks cause) = Some (record { span = span; cause = cause })
 own_fault span Nothing = None
 
-abbrev pub made_value : Made → Folded
-made_value (Gives v) = Value v
-made_value (Breaks cause) = Neither
-made_value Nothing = Neither
+-- the value that is made, and where there is none whether the sign tells that it is a truth value
+abbrev pub made_value : Bool → Made → Folded
+made_value truth (Gives v) = Value v
+made_value truth (Breaks cause) = without_value None truth
+made_value truth Nothing = without_value None truth
 
 -- the first refusal, and where there is none what is made
-abbrev pub unless_fault : Option Fault → Made → Folded
-unless_fault None made = made_value made
-unless_fault (Some fault) made = Refused fault
+abbrev pub unless_fault : Bool → Option Fault → Made → Folded
+unless_fault truth None made = made_value truth made
+unless_fault truth (Some fault) made = without_value (Some fault) truth
 
--- what an operation at a place comes to, with what its operands came to
-abbrev pub one_folded : Span → Made → Folded → Folded
-one_folded span made operand = unless_fault (first_fault (own_fault span made) (fault_of operand)) made
+-- what an operation at a place comes to that has no operands
+abbrev pub alone_folded : Span → Made → Folded
+alone_folded span made = unless_fault false (own_fault span made) made
 
-abbrev pub two_folded : Span → Made → Folded → Folded → Folded
-two_folded span made left right = unless_fault (first_fault (first_fault (own_fault span made) (fault_of left)) (fault_of right)) made
+-- what one comes to, with what its operand came to
+abbrev pub one_folded : Bool → Span → Made → Folded → Folded
+one_folded truth span made operand = unless_fault truth (first_fault (own_fault span made) (fault_of operand)) made
+
+-- what one comes to, with what its two operands came to
+abbrev pub two_folded : Bool → Span → Made → Folded → Folded → Folded
+two_folded truth span made left right = unless_fault truth (first_fault (first_fault (own_fault span made) (fault_of left)) (fault_of right)) made
 
 -- ---- names and texts
 
@@ -108,6 +96,7 @@ IndexMakes consts name made = elim (times_pi name) [
 abbrev pub inner_text : List ℕ → List ℕ
 inner_text text = take (length text - 2) (drop 1 text)
 
+-- the digits of a text
 abbrev pub digits_alone : List ℕ → List ℕ
 digits_alone text = filter is_binary_digit text
 
@@ -119,37 +108,34 @@ text_made text = if goes_on is_binary_digit false text && nat_le (length (digits
 
 -- what a tree comes to
 abbrev pub Folds : List Const → Tree → Folded → Type 0
-Folds consts (Integer span n) f = (made : Made) × MakesWhole (pos n) made × (f ≡ unless_fault (own_fault span made) made)
+Folds consts (Integer span n) f = (made : Made) × MakesWhole (pos n) made × (f ≡ alone_folded span made)
 Folds consts (Fraction q) f = (x : Num) × (x.plain ≡ q) × IsZero x.pi × (f ≡ Value (Number x))
 Folds consts (Given x) f = f ≡ Value (Number x)
-Folds consts (Quoted text) f = f ≡ made_value (text_made (inner_text text))
+Folds consts (Quoted text) f = f ≡ made_value false (text_made (inner_text text))
 Folds consts (Truthful b) f = f ≡ Value (Truth b)
-Folds consts (Named span name) f = (made : Made) × NameMakes consts name made × (f ≡ unless_fault (own_fault span made) made)
+Folds consts (Named span name) f = (made : Made) × NameMakes consts name made × (f ≡ alone_folded span made)
 Folds consts (Indexed span name index) f =
-    (made : Made) × (i : Folded) × IndexMakes consts name made × Folds consts index i × (f ≡ one_folded span made i)
+    (made : Made) × (i : Folded) × IndexMakes consts name made × Folds consts index i × (f ≡ one_folded false span made i)
 Folds consts (Enclosed inner) f = Folds consts inner f
-Folds consts (Signed span op operand) f = (made : Made) × (x : Folded) × Folds consts operand x × SignIs op (value_of x) made × (f ≡ one_folded span made x)
+Folds consts (Signed span op operand) f =
+    (made : Made) × (x : Folded) × Folds consts operand x × SignIs op (value_of x) made × (f ≡ one_folded (un_gives_truth op) span made x)
 Folds consts (Joined span left op right) f =
-    (made : Made) × (x : Folded) × (y : Folded) × Folds consts left x × Folds consts right y × PairMakes op (value_of x) (value_of y) made × (f ≡ two_folded span made x y)
-Folds consts Other f = f ≡ Neither
+    (made : Made) × (x : Folded) × (y : Folded) × Folds consts left x × Folds consts right y × PairMakes op x y made × (f ≡ two_folded (bin_gives_truth op) span made x y)
+Folds consts Other f = f ≡ without_value None false
+
+-- An outcome is a value or a refusal.
+abbrev pub IsTold : Folded → Type 0
+IsTold (Value v) = Unit {0}
+IsTold (Absent a) = a.fault ≢ None
 
 -- Whatever an expression comes to, it has a value or is refused.
 abbrev pub IsFoldable : Expr → Consts → Type 0
-IsFoldable e consts = (f : Folded) → Folds consts.list (tree_of e) f → f ≢ Neither
-
--- a refusal as the call answers it
-abbrev pub refused_as : Fault → ConstRefusal
-refused_as fault = elim fault.cause [
-  | TooWide ↦ refusal.TooWide fault.span
-  | PiTimesPi ↦ refusal.PiTimesPi fault.span
-  | ByZero ↦ refusal.ByZero fault.span
-  | ByPi ↦ refusal.ByPi fault.span
-  | BadPower ↦ refusal.BadPower fault.span
-  | NotConst ↦ refusal.NotConst fault.span
-]
+IsFoldable e consts = (f : Folded) → Folds consts.list (tree_of e) f → IsTold f
 
 -- What `fold` answers: the value, or the first refusal. Want of memory is free.
 abbrev pub FoldIs : Expr → Consts → Result ConstVal ConstRefusal → Type 0
 FoldIs e consts (Ok v) = Folds consts.list (tree_of e) (Value v)
-FoldIs e consts (Err refusal.Memory) = Unit {0}
-FoldIs e consts (Err r) = (fault : Fault) × Folds consts.list (tree_of e) (Refused fault) × (r ≡ refused_as fault)
+FoldIs e consts (Err r) = elim (fault_told r) [
+  | None ↦ Unit {0}
+  | Some fault ↦ (f : Folded) × Folds consts.list (tree_of e) f × (fault_of f ≡ Some fault)
+]

@@ -1,6 +1,7 @@
 pub mod Trees
+pub mod Codes
+pub mod Outcomes
 pub mod Operations
 pub mod Folding
 pub mod Wholes
-pub mod Codes
 pub mod Once

@@ -1,5 +1,5 @@
 -- The operations on constants, case by case (OpenQASM 3.0, constant expressions, in this project's exact profile).
-use Rattle.std.specs.Prelude.{◌≡◌, ◌≢◌, ◌⊎◌, ℕ, ◌≤◌, ◌^◌, ℤ, pos, ◌+ℤ◌, ◌-ℤ◌, ◌*ℤ◌, ◌≤ℤ◌, ◌<ℤ◌, Bool, true, false, ◌&&◌, ◌||◌, not, int_rem, int_lt, int_le, Option, Some, None, Result, Ok, Err, zero, suc}
+use Rattle.std.specs.Prelude.{◌≡◌, ◌≢◌, ◌⊎◌, ℕ, ◌≤◌, ◌^◌, ℤ, pos, ◌+ℤ◌, ◌-ℤ◌, ◌*ℤ◌, ◌≤ℤ◌, ◌<ℤ◌, Bool, true, false, ◌&&◌, ◌||◌, not, if◌then◌else◌, int_rem, int_lt, int_le, Option, Some, None, Result, Ok, Err, zero, suc}
 use Rattle.std.specs.Int.{int_bit_and, int_bit_or, int_bit_xor}
 use mir.Syntax.{w64}
 use Rattle.qs_values.specs.Number.{IsZero, NumberIs, SumIs, DifferenceIs, ProductIs, RatioIs}
@@ -16,6 +16,9 @@ use Rattle.qs_const.specs.declared.made.Cause.{Cause}
 use Rattle.qs_const.specs.declared.made.Cause.TheVariants as cause
 use Rattle.qs_const.specs.declared.made.Made.{Made}
 use Rattle.qs_const.specs.declared.made.Made.TheVariants.{Gives, Breaks, Nothing}
+use Rattle.qs_const.specs.declared.folded.Folded.{Folded}
+use Rattle.qs_const.specs.declared.folded.Folded.TheVariants.{Value, Absent}
+use Rattle.qs_const.specs.Outcomes.{is_at_run_time, tells_truth, value_of}
 
 -- the cause of a refusal among numbers
 abbrev pub cause_of : NumRefusal → Cause
@@ -37,10 +40,11 @@ MakesNumber an ad bn bd made = (r : Result Num NumRefusal) × NumberIs an ad bn 
 abbrev pub MakesWhole : ℤ → Made → Type 0
 MakesWhole k made = MakesNumber k (pos 1) (pos 0) (pos 1) made
 
--- A number is whole, and this; or it isn't.
+-- A number is whole, and this.
 abbrev pub IsWhole : Num → ℤ → Type 0
 IsWhole x k = IsZero x.pi × (x.plain.den ≡ pos 1) × (x.plain.num ≡ k)
 
+-- A number isn't whole.
 abbrev pub IsNotWhole : Num → Type 0
 IsNotWhole x = (x.pi.num ≢ pos 0) ⊎ (x.plain.den ≢ pos 1)
 
@@ -75,9 +79,11 @@ OnWholes Makes x y made =
     ((j : ℤ) × (k : ℤ) × IsWhole x j × IsWhole y k × Makes j k made)
     ⊎ ((IsNotWhole x ⊎ IsNotWhole y) × (made ≡ Nothing))
 
+-- one on operands that may be whole numbers
 abbrev pub OfWholes : (ℤ → ℤ → Made → Type 0) → Option ConstVal → Option ConstVal → Made → Type 0
 OfWholes Makes left right made = OfNumbers (OnWholes Makes) left right made
 
+-- whether two whole numbers are equal
 abbrev pub int_equal : ℤ → ℤ → Bool
 int_equal j k = int_le j k && int_le k j
 
@@ -102,30 +108,35 @@ OfAlike op test left right made = OfWholes (Compares test) left right made
 
 -- ---- quotients, remainders, shifts and powers, which may be refused whatever the left operand is
 
+-- A number is 0.
 abbrev pub IsNothing : Num → Type 0
 IsNothing y = IsZero y.plain × IsZero y.pi
 
--- a divisor that no dividend of this kind has a quotient by: one with pi, and for an unknown dividend one with pi and a plain part
-abbrev pub HasNoQuotient : Option ConstVal → Num → Type 0
-HasNoQuotient None y = (y.pi.num ≢ pos 0) × (y.plain.num ≢ pos 0)
-HasNoQuotient (Some v) y = y.pi.num ≢ pos 0
+-- A divisor with pi refuses this dividend, which can't be a number. One without a value whose sign doesn't tell so might be
+-- a multiple of pi: it is refused beside a plain part alone.
+abbrev pub HasNoQuotient : Folded → Num → Type 0
+HasNoQuotient (Value v) y = y.pi.num ≢ pos 0
+HasNoQuotient (Absent a) y = (y.pi.num ≢ pos 0) × ((tells_truth (Absent a) ≡ true) ⊎ (y.plain.num ≢ pos 0))
 
-abbrev pub MayHaveQuotient : Option ConstVal → Num → Type 0
-MayHaveQuotient None y = IsZero y.pi ⊎ IsZero y.plain
-MayHaveQuotient (Some v) y = IsZero y.pi
+-- A divisor doesn't refuse this dividend for its pi.
+abbrev pub MayHaveQuotient : Folded → Num → Type 0
+MayHaveQuotient (Value v) y = IsZero y.pi
+MayHaveQuotient (Absent a) y = IsZero y.pi ⊎ ((tells_truth (Absent a) ≡ false) × IsZero y.plain)
 
-abbrev pub DividesOther : Option ConstVal → Num → Made → Type 0
+-- a divisor of a dividend that is no number, or has no value
+abbrev pub DividesOther : Folded → Num → Made → Type 0
 DividesOther left y made =
     (IsNothing y × (made ≡ Breaks cause.ByZero))
     ⊎ ((HasNoQuotient left y × (made ≡ Breaks cause.ByPi))
     ⊎ (¬ (IsNothing y) × MayHaveQuotient left y × (made ≡ Nothing)))
 
-abbrev pub Divides : Option ConstVal → Num → Made → Type 0
-Divides (Some (Number x)) y made = ByResult RatioIs x y made
+-- a divisor of any dividend
+abbrev pub Divides : Folded → Num → Made → Type 0
+Divides (Value (Number x)) y made = ByResult RatioIs x y made
 Divides left y made = DividesOther left y made
 
--- by a divisor
-abbrev pub QuotientMakes : Option ConstVal → Option ConstVal → Made → Type 0
+-- a quotient: what is no number, or has no value, is no divisor
+abbrev pub QuotientMakes : Folded → Option ConstVal → Made → Type 0
 QuotientMakes left (Some (Number y)) made = Divides left y made
 QuotientMakes left right made = made ≡ Nothing
 
@@ -133,6 +144,7 @@ QuotientMakes left right made = made ≡ Nothing
 abbrev pub Remains : ℤ → ℤ → Made → Type 0
 Remains j k made = MakesWhole (int_rem j k) made
 
+-- a remainder: a divisor 0 or with pi is refused, whatever is divided
 abbrev pub RemainderMakes : Option ConstVal → Option ConstVal → Made → Type 0
 RemainderMakes left (Some (Number y)) made =
     (IsNothing y × (made ≡ Breaks cause.ByZero))
@@ -140,13 +152,15 @@ RemainderMakes left (Some (Number y)) made =
     ⊎ (¬ (IsNothing y) × IsZero y.pi × OfWholes Remains left (Some (Number y)) made))
 RemainderMakes left right made = made ≡ Nothing
 
--- what a shift by so many places makes of a whole number
+-- what a shift to the left by so many places makes of a whole number
 abbrev pub ShiftsUp : ℤ → ℕ → Made → Type 0
 ShiftsUp j n made = MakesWhole (j *ℤ pos (2 ^ n)) made
 
+-- what one to the right makes, rounded down
 abbrev pub ShiftsDown : ℤ → ℕ → Made → Type 0
 ShiftsDown j n made = (k : ℤ) × ((k *ℤ pos (2 ^ n)) ≤ℤ j) × (j <ℤ ((k +ℤ pos 1) *ℤ pos (2 ^ n))) × MakesWhole k made
 
+-- what one makes of any operand
 abbrev pub ShiftedIs : (ℤ → ℕ → Made → Type 0) → Option ConstVal → ℕ → Made → Type 0
 ShiftedIs Shifts (Some (Number x)) n made = ((j : ℤ) × IsWhole x j × Shifts j n made) ⊎ (IsNotWhole x × (made ≡ Nothing))
 ShiftedIs Shifts left n made = made ≡ Nothing
@@ -155,15 +169,16 @@ ShiftedIs Shifts left n made = made ≡ Nothing
 abbrev pub IsCount : Num → ℕ → Type 0
 IsCount y n = IsWhole y (pos n) × (n ≤ 63)
 
-abbrev pub IsOutside : ℤ → Type 0
-IsOutside k = (k <ℤ pos 0) ⊎ (pos 63 <ℤ k)
+-- A number without pi is below 0 or above 63.
+abbrev pub IsOutside : Num → Type 0
+IsOutside y = IsZero y.pi × ((y.plain.num <ℤ pos 0) ⊎ ((pos 63 *ℤ y.plain.den) <ℤ y.plain.num))
 
--- a shift: a count that is whole and isn't from 0 to 63 is refused, whatever is shifted
+-- a shift: a count outside of 0 to 63 is refused, whatever is shifted, and any other that isn't whole has no rule
 abbrev pub ShiftMakes : (ℤ → ℕ → Made → Type 0) → Option ConstVal → Option ConstVal → Made → Type 0
 ShiftMakes Shifts left (Some (Number y)) made =
-    (IsNotWhole y × (made ≡ Nothing))
-    ⊎ (((k : ℤ) × IsWhole y k × IsOutside k × (made ≡ Breaks cause.TooWide))
-    ⊎ ((n : ℕ) × IsCount y n × ShiftedIs Shifts left n made))
+    (IsOutside y × (made ≡ Breaks cause.TooWide))
+    ⊎ (((n : ℕ) × IsCount y n × ShiftedIs Shifts left n made)
+    ⊎ (IsNotWhole y × ¬ (IsOutside y) × (made ≡ Nothing)))
 ShiftMakes Shifts left right made = made ≡ Nothing
 
 -- a product that goes on where there was none too wide before
@@ -176,44 +191,50 @@ abbrev pub IsPower : Num → ℕ → Result Num NumRefusal → Type 0
 IsPower x zero r = NumberIs (pos 1) (pos 1) (pos 0) (pos 1) r
 IsPower x (suc n) r = (before : Result Num NumRefusal) × IsPower x n before × Times before x r
 
-abbrev pub RaisedIs : Option ConstVal → ℕ → Made → Type 0
-RaisedIs (Some (Number x)) n made = (r : Result Num NumRefusal) × IsPower x n r × (made ≡ number_made r)
-RaisedIs left n made = made ≡ Nothing
+-- a power that is refused, or else nothing
+abbrev pub refused_power : Bool → Made
+refused_power refused = if refused then Breaks cause.BadPower else Nothing
 
--- a constant is no exponent
+-- what a part makes to the n-th power: what is no number has none, and at run time no power is built
+abbrev pub RaisedIs : Folded → ℕ → Made → Type 0
+RaisedIs (Value (Number x)) n made = (r : Result Num NumRefusal) × IsPower x n r × (made ≡ number_made r)
+RaisedIs left n made = made ≡ refused_power (is_at_run_time left)
+
+-- A constant is no exponent.
 abbrev pub IsNoExponent : ConstVal → Type 0
-IsNoExponent (Number y) = IsNotWhole y ⊎ ((k : ℤ) × IsWhole y k × IsOutside k)
+IsNoExponent (Number y) = IsNotWhole y ⊎ IsOutside y
 IsNoExponent v = Unit {0}
 
+-- A constant is this exponent.
 abbrev pub IsExponent : ConstVal → ℕ → Type 0
 IsExponent (Number y) n = IsCount y n
 IsExponent v n = ⊥
 
--- a power: what isn't a whole number from 0 to 63 is no exponent, whatever is raised to it
-abbrev pub PowerMakes : Option ConstVal → Option ConstVal → Made → Type 0
-PowerMakes left (Some v) made = (IsNoExponent v × (made ≡ Breaks cause.BadPower)) ⊎ ((n : ℕ) × IsExponent v n × RaisedIs left n made)
-PowerMakes left None made = made ≡ Nothing
+-- a power: what isn't a whole number from 0 to 63 is no exponent, whatever is raised to it, and no power is built at run time
+abbrev pub PowerMakes : Folded → Folded → Made → Type 0
+PowerMakes left (Value v) made = (IsNoExponent v × (made ≡ Breaks cause.BadPower)) ⊎ ((n : ℕ) × IsExponent v n × RaisedIs left n made)
+PowerMakes left (Absent a) made = made ≡ refused_power (is_at_run_time left || is_at_run_time (Absent a) || tells_truth (Absent a))
 
 -- ---- all of them
 
 -- what a sign between two operands makes, where each of them may have no value
-abbrev pub PairMakes : BinOp → Option ConstVal → Option ConstVal → Made → Type 0
+abbrev pub PairMakes : BinOp → Folded → Folded → Made → Type 0
 PairMakes Power left right made = PowerMakes left right made
-PairMakes Mul left right made = OfNumbers (ByResult ProductIs) left right made
-PairMakes Div left right made = QuotientMakes left right made
-PairMakes Rem left right made = RemainderMakes left right made
-PairMakes Add left right made = OfNumbers (ByResult SumIs) left right made
-PairMakes Sub left right made = OfNumbers (ByResult DifferenceIs) left right made
-PairMakes ShiftLeft left right made = ShiftMakes ShiftsUp left right made
-PairMakes ShiftRight left right made = ShiftMakes ShiftsDown left right made
-PairMakes Less left right made = OfWholes (Compares int_lt) left right made
-PairMakes LessEqual left right made = OfWholes (Compares int_le) left right made
-PairMakes Greater left right made = OfWholes (Compares (λ j k. int_lt k j)) left right made
-PairMakes GreaterEqual left right made = OfWholes (Compares (λ j k. int_le k j)) left right made
-PairMakes Equal left right made = OfAlike alike int_equal left right made
-PairMakes NotEqual left right made = OfAlike (λ a b. not (alike a b)) (λ j k. not (int_equal j k)) left right made
-PairMakes BitAnd left right made = OfWholes (λ j k. MakesWhole (int_bit_and w64 j k)) left right made
-PairMakes BitXor left right made = OfWholes (λ j k. MakesWhole (int_bit_xor w64 j k)) left right made
-PairMakes BitOr left right made = OfWholes (λ j k. MakesWhole (int_bit_or w64 j k)) left right made
-PairMakes And left right made = OfTruths (λ a b. a && b) left right made
-PairMakes Or left right made = OfTruths (λ a b. a || b) left right made
+PairMakes Mul left right made = OfNumbers (ByResult ProductIs) (value_of left) (value_of right) made
+PairMakes Div left right made = QuotientMakes left (value_of right) made
+PairMakes Rem left right made = RemainderMakes (value_of left) (value_of right) made
+PairMakes Add left right made = OfNumbers (ByResult SumIs) (value_of left) (value_of right) made
+PairMakes Sub left right made = OfNumbers (ByResult DifferenceIs) (value_of left) (value_of right) made
+PairMakes ShiftLeft left right made = ShiftMakes ShiftsUp (value_of left) (value_of right) made
+PairMakes ShiftRight left right made = ShiftMakes ShiftsDown (value_of left) (value_of right) made
+PairMakes Less left right made = OfWholes (Compares int_lt) (value_of left) (value_of right) made
+PairMakes LessEqual left right made = OfWholes (Compares int_le) (value_of left) (value_of right) made
+PairMakes Greater left right made = OfWholes (Compares (λ j k. int_lt k j)) (value_of left) (value_of right) made
+PairMakes GreaterEqual left right made = OfWholes (Compares (λ j k. int_le k j)) (value_of left) (value_of right) made
+PairMakes Equal left right made = OfAlike alike int_equal (value_of left) (value_of right) made
+PairMakes NotEqual left right made = OfAlike (λ a b. not (alike a b)) (λ j k. not (int_equal j k)) (value_of left) (value_of right) made
+PairMakes BitAnd left right made = OfWholes (λ j k. MakesWhole (int_bit_and w64 j k)) (value_of left) (value_of right) made
+PairMakes BitXor left right made = OfWholes (λ j k. MakesWhole (int_bit_xor w64 j k)) (value_of left) (value_of right) made
+PairMakes BitOr left right made = OfWholes (λ j k. MakesWhole (int_bit_or w64 j k)) (value_of left) (value_of right) made
+PairMakes And left right made = OfTruths (λ a b. a && b) (value_of left) (value_of right) made
+PairMakes Or left right made = OfTruths (λ a b. a || b) (value_of left) (value_of right) made

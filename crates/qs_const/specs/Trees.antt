@@ -42,15 +42,18 @@ kind_step (Unary op operand) span = Signed span op operand
 kind_step (Binary left op right) span = Joined span left op right
 kind_step (Number value) span = Given value
 
+-- the tree of an expression is that of what it is, at its place
 abbrev pub expr_step : Expr-F (Span → Tree) Tree (Unit {0}) → Tree
 expr_step e = e.kind e.span
 
+-- a type has no tree
 abbrev pub type_step : TypeExpr-F (Span → Tree) Tree (Unit {0}) → Unit {0}
 type_step t = tt
 
--- the tree of an expression
+-- the tree of what an expression is, at a place
 abbrev pub tree_at : ExprKind → Span → Tree
 tree_at = fold-ExprKind (Span → Tree) Tree (Unit {0}) kind_step expr_step type_step
 
+-- the tree of an expression
 abbrev pub tree_of : Expr → Tree
 tree_of e = tree_at e.kind e.span

@@ -1,9 +1,12 @@
 -- The whole numbers that operands are, and counts among them (OpenQASM 3.0, constant expressions, in this project's exact profile).
-use Rattle.std.specs.Prelude.{◌≡◌, ℕ, ◌≤◌, ◌<◌, ◌^◌, ℤ, pos, unsigned_abs, Option, Some, None}
+use Rattle.std.specs.Prelude.{◌≡◌, ◌⊎◌, ℕ, ◌<◌, ◌^◌, ℤ, unsigned_abs, Option, Some, None}
 use Rattle.qs_values.specs.declared.number.Num.{Num}
 use Rattle.qs_tree.specs.declared.constant.ConstVal.{ConstVal}
 use Rattle.qs_tree.specs.declared.constant.ConstVal.TheVariants.{Number, Truth, Bits}
-use Rattle.qs_const.specs.Operations.{IsWhole, IsNotWhole, IsOutside, IsExponent, IsNoExponent}
+use Rattle.qs_const.specs.declared.made.Cause.TheVariants.{TooWide}
+use Rattle.qs_const.specs.declared.made.Made.{Made}
+use Rattle.qs_const.specs.declared.made.Made.TheVariants.{Breaks, Nothing}
+use Rattle.qs_const.specs.Operations.{IsExponent, IsNoExponent, IsNotWhole, IsOutside, IsWhole}
 
 -- the whole number that a number is, which is below 10^18 in size, or that it is none
 abbrev pub WholeIs : Num → Option ℤ → Type 0
@@ -17,12 +20,13 @@ OperandIs (Some (Truth b)) k = k ≡ None
 OperandIs (Some (Bits b)) k = k ≡ None
 OperandIs None k = k ≡ None
 
--- a whole number as a count from 0 to 63, or that it is none
-abbrev pub CountIs : ℤ → Option ℕ → Type 0
-CountIs k (Some n) = (k ≡ pos n) × (n ≤ 63)
-CountIs k None = IsOutside k
+-- the count from 0 to 63 that an operand is, or that it is none
+abbrev pub CountIs : Option ConstVal → Option ℕ → Type 0
+CountIs (Some v) (Some n) = IsExponent v n
+CountIs (Some v) None = IsNoExponent v
+CountIs None n = n ≡ None
 
--- the exponent that a constant is, or that it is none
-abbrev pub ExponentIs : ConstVal → Option ℕ → Type 0
-ExponentIs v (Some n) = IsExponent v n
-ExponentIs v None = IsNoExponent v
+-- what an operand that is no count makes as one
+abbrev pub NoCountMakes : Option ConstVal → Made → Type 0
+NoCountMakes (Some (Number y)) made = (IsOutside y × (made ≡ Breaks TooWide)) ⊎ (¬ (IsOutside y) × (made ≡ Nothing))
+NoCountMakes operand made = made ≡ Nothing

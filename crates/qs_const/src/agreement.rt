@@ -1,6 +1,6 @@
 //! A plain and slow program of what constant expressions come to, with which `fold` agrees.
 
-use crate::tests::{answer, known, number_text};
+use crate::tests::{BETWEEN, answer, known, number_text};
 use Value::{Digits, Number, Truth};
 use qs_tree::BinOp::{
     Add, And, BitAnd, BitOr, BitXor, Div, Equal, Greater, GreaterEqual, Less, LessEqual, Mul,
@@ -23,19 +23,26 @@ enum Value {
     /// The number `a + b * π`.
     Number(Ratio, Ratio),
     Truth(bool),
-    Digits,
+    Digits(&'static str),
 }
 
 /// What an operation makes: a value, a refusal's code, or nothing.
 type Made = Option<Result<Value, u16>>;
 
-/// A refusal's line, column and code.
-type Fault = (u32, u32, u16);
+/// What an expression comes to: its value, the line, column and code of its first refusal, and
+/// whether its sign tells that it is a truth value.
+#[derive(Clone, Copy)]
+struct Outcome {
+    value: Option<Value>,
+    fault: Option<(u32, u32, u16)>,
+    truth: bool,
+}
 
-/// What an expression comes to: its value, its first fault, or neither.
-type Outcome = (Option<Value>, Option<Fault>);
-
-const NEITHER: Outcome = (None, None);
+const NEITHER: Outcome = Outcome {
+    value: None,
+    fault: None,
+    truth: false,
+};
 
 /// The fraction of two numbers in lowest terms, where it isn't too wide.
 fn ratio(num: Option<i128>, den: Option<i128>) -> Option<Ratio> {
@@ -144,20 +151,39 @@ fn of_wholes(op: BinOp, j: i128, k: i128) -> Made {
     }
 }
 
-fn between(op: BinOp, left: Option<Value>, right: Value) -> Made {
-    match (op, left, right) {
-        (Power, Some(x @ Number(..)), Number((count @ 0..=63, 1), (0, _))) => power(x, count),
-        (Power, _, Number((0..=63, 1), (0, _))) => None,
-        (Power, _, _) => Some(Err(125)),
+/// Whether the first refusal is of a name without a constant.
+fn is_unknown(x: &Outcome) -> bool {
+    match x.fault {
+        Some((_, _, code)) => code == 126,
+        None => false,
+    }
+}
+
+fn raised(x: &Outcome, y: &Outcome) -> Made {
+    match (x.value, y.value) {
+        (Some(x @ Number(..)), Some(Number((count @ 0..=63, 1), (0, _)))) => power(x, count),
+        (_, Some(Number((0..=63, 1), (0, _)))) if !is_unknown(x) => None,
+        (_, None) if !is_unknown(x) && !is_unknown(y) && !y.truth => None,
+        _ => Some(Err(125)),
+    }
+}
+
+/// Whether a fraction is below 0 or above 63.
+fn is_outside((num, den): Ratio) -> bool {
+    num < 0 || den.checked_mul(63).is_some_and(|most| most < num)
+}
+
+fn between(op: BinOp, left: &Outcome, right: Value) -> Made {
+    match (op, left.value, right) {
         (Div | Rem, _, Number((0, _), (0, _))) => Some(Err(123)),
         (Div, Some(x), Number((c, n), (0, _))) => times(x, Number((n, c), ZERO)),
         (Div, Some(Number((0, _), b)), Number((0, _), (d, n))) => number(
             product(b, (n, d)),
             Some(ZERO),
         ),
-        (Div, None, Number((0, _), _)) => None,
+        (Div, None, Number((0, _), _)) if !left.truth => None,
         (Div | Rem, _, Number(_, (d, _))) if d != 0 => Some(Err(124)),
-        (ShiftLeft | ShiftRight, _, Number((k, 1), (0, _))) if k < 0 || k > 63 => Some(Err(121)),
+        (ShiftLeft | ShiftRight, _, Number(k, (0, _))) if is_outside(k) => Some(Err(121)),
         (Add, Some(Number(a, b)), Number(c, d)) => number(sum(a, 1, c), sum(b, 1, d)),
         (Sub, Some(Number(a, b)), Number(c, d)) => number(sum(a, -1, c), sum(b, -1, d)),
         (Mul, Some(x), y) => times(x, y),
@@ -170,6 +196,21 @@ fn between(op: BinOp, left: Option<Value>, right: Value) -> Made {
     }
 }
 
+/// Whether a sign makes truth values alone.
+fn tells_truth(op: BinOp) -> bool {
+    [
+        Less,
+        LessEqual,
+        Greater,
+        GreaterEqual,
+        Equal,
+        NotEqual,
+        And,
+        Or,
+    ]
+    .contains(&op)
+}
+
 fn before(op: UnOp, operand: Value) -> Made {
     match (op, operand) {
         (UnOp::Not, Truth(a)) => truth(!a),
@@ -177,6 +218,24 @@ fn before(op: UnOp, operand: Value) -> Made {
         (UnOp::Invert, x) => whole((-1i128).checked_sub(as_whole(x)?)),
         _ => None,
     }
+}
+
+/// Texts, each with its digits where it is a constant.
+static TEXTS: [(&str, Option<&str>); 5] = [
+    ("\"0110\"", Some("0110")),
+    ("\"1_0\"", Some("10")),
+    ("\"1__0\"", None),
+    ("\"12\"", None),
+    ("\"\"", None),
+];
+
+fn text(name: &str) -> Made {
+    for (text, digits) in &TEXTS {
+        if *text == name {
+            return digits.map(|digits| Ok(Digits(digits)));
+        }
+    }
+    None
 }
 
 /// The constants of the names, as the test of the table has them.
@@ -189,53 +248,64 @@ fn constant(name: &str) -> Made {
         "mixed" => Number((3, 1), (2, 1)),
         "yes" => Truth(true),
         "no" => Truth(false),
-        "digits" => Digits,
+        "digits" => Digits("0110"),
         _ => return Some(Err(126)),
     }))
 }
 
-fn slow(e: &Expr) -> Outcome {
-    let (made, x, y) = match &e.kind {
-        ExprKind::Whole(value) => (whole(Some(*value as i128)), NEITHER, NEITHER),
-        ExprKind::Truth(value) => (truth(*value), NEITHER, NEITHER),
+/// What a number, a text, a truth value and a name make.
+fn alone(kind: &ExprKind) -> Made {
+    match kind {
+        ExprKind::Whole(value) => whole(Some(*value as i128)),
+        ExprKind::Decimal(value) => number(Some((value.num(), value.den())), Some(ZERO)),
+        ExprKind::Text(name) => text(name.as_str()),
+        ExprKind::Truth(value) => truth(*value),
+        ExprKind::Name(name) => constant(name.as_str()),
         ExprKind::Number(Num { plain, pi }) => {
-            let value = Number((plain.num(), plain.den()), (pi.num(), pi.den()));
-            (Some(Ok(value)), NEITHER, NEITHER)
+            number(Some((plain.num(), plain.den())), Some((pi.num(), pi.den())))
         }
-        ExprKind::Name(name) => (constant(name.as_str()), NEITHER, NEITHER),
+        _ => None,
+    }
+}
+
+fn slow(e: &Expr) -> Outcome {
+    let (made, truth, x, y) = match &e.kind {
+        ExprKind::Group(inner) => return slow(inner.get()),
         ExprKind::Index(name, index) => {
             let made = constant(name.as_str()).filter(|made| made.is_err());
-            (made, slow(index.get()), NEITHER)
+            (made, false, slow(index.get()), NEITHER)
         }
-        ExprKind::Group(inner) => return slow(inner.get()),
         ExprKind::Unary(op, operand) => {
             let x = slow(operand.get());
-            (x.0.and_then(|x| before(*op, x)), x, NEITHER)
+            let made = x.value.and_then(|x| before(*op, x));
+            (made, *op == UnOp::Not, x, NEITHER)
         }
         ExprKind::Binary(left, op, right) => {
             let (x, y) = (slow(left.get()), slow(right.get()));
-            (y.0.and_then(|y| between(*op, x.0, y)), x, y)
+            let made = match op {
+                Power => raised(&x, &y),
+                _ => y.value.and_then(|y| between(*op, &x, y)),
+            };
+            (made, tells_truth(*op), x, y)
         }
-        _ => return NEITHER,
+        kind => (alone(kind), false, NEITHER, NEITHER),
     };
     let code = made.and_then(|made| made.err());
     let own = code.map(|code| (e.span.line, e.span.col, code));
-    match ([own, x.1, y.1].into_iter().flatten().min(), made) {
-        (None, Some(Ok(value))) => (Some(value), None),
-        (first, _) => (None, first),
+    let fault = [own, x.fault, y.fault].into_iter().flatten().min();
+    let value = match (fault, made) {
+        (None, Some(Ok(value))) => Some(value),
+        _ => None,
+    };
+    Outcome {
+        value,
+        fault,
+        truth,
     }
 }
 
 const NAMES: [&str; 12] = [
     "pi", "π", "tau", "τ", "n", "n", "half", "mixed", "yes", "no", "digits", "z",
-];
-
-const OPERATORS: [[BinOp; 4]; 5] = [
-    [Power, Mul, Div, Rem],
-    [Add, Sub, ShiftLeft, ShiftRight],
-    [Less, LessEqual, Greater, GreaterEqual],
-    [Equal, NotEqual, BitAnd, BitXor],
-    [BitOr, And, Or, Power],
 ];
 
 /// Expressions by chance, from a linear congruence.
@@ -264,35 +334,50 @@ impl Chance {
         Ok(Boxed::new(self.alloc, Expr { span, kind })?)
     }
 
-    /// A number, a name or a truth value.
-    fn leaf(&mut self) -> Result<Boxed<Expr>, Fail> {
-        let kind = match self.next() % 16 {
-            0..=7 => ExprKind::Whole(self.next() % 6),
+    /// A truth value, mostly, or a number, a text or a name.
+    fn leaf(&mut self, truths: bool) -> Result<Boxed<Expr>, Fail> {
+        let kind = match self.next() % if truths { 64 } else { 18 } {
+            0..=6 => ExprKind::Whole(self.next() % 6),
+            7 => ExprKind::Decimal(Frac::of((self.next() % 512) as i128, 4)?),
             8 => ExprKind::Whole(61 + self.next() % 4),
             9 => ExprKind::Whole(999_999_999_999_999_998 + self.next() % 3),
-            10 => ExprKind::Truth(self.next() % 2 == 0),
-            11 => ExprKind::Number(Num {
+            10 => ExprKind::Number(Num {
                 plain: Frac::of((self.next() % 256) as i128 - 128, 6)?,
                 pi: Frac::whole((self.next() % 2) as i32),
             }),
-            _ => ExprKind::Name(self.name()?),
+            11 => {
+                let (text, _) = TEXTS[self.next() as usize % TEXTS.len()];
+                ExprKind::Text(Name::copy_of(self.alloc, text)?)
+            }
+            12..=16 => ExprKind::Name(self.name()?),
+            _ => ExprKind::Truth(self.next() % 2 == 0),
         };
         self.node(kind)
     }
 
+    /// An operator, or one on truth values.
+    fn operator(&mut self, truths: bool) -> BinOp {
+        let chosen = self.next() as usize;
+        if truths {
+            [And, Or, Equal, NotEqual][chosen % 4]
+        } else {
+            BETWEEN[chosen % BETWEEN.len()].1
+        }
+    }
+
     /// An expression of up to 6 levels, made from its leaves upwards.
-    fn built(&mut self) -> Result<Boxed<Expr>, Fail> {
-        let mut parts = vec![in self.alloc; self.leaf()?]?;
+    fn built(&mut self, truths: bool) -> Result<Boxed<Expr>, Fail> {
+        let mut parts = vec![in self.alloc; self.leaf(truths)?]?;
         for _ in 0..self.next() % 6 {
-            let single = self.leaf()?;
+            let single = self.leaf(truths)?;
             if self.next() % 4 == 0 {
-                parts.push(self.leaf()?)?;
+                parts.push(self.leaf(truths)?)?;
             }
             let part = parts.pop().ok_or("no part")?;
-            let op = OPERATORS[self.next() as usize % 5][self.next() as usize % 4];
+            let op = self.operator(truths);
             let kind = match self.next() % 32 {
-                0..=2 => ExprKind::Unary(UnOp::Neg, part),
-                3 => ExprKind::Unary(UnOp::Not, part),
+                0..=2 if !truths => ExprKind::Unary(UnOp::Neg, part),
+                0..=3 => ExprKind::Unary(UnOp::Not, part),
                 4 => ExprKind::Unary(UnOp::Invert, part),
                 5 => ExprKind::Index(self.name()?, part),
                 6 | 7 => ExprKind::Group(part),
@@ -306,26 +391,40 @@ impl Chance {
     }
 }
 
-/// `fold` and the slow program agree on some thousand expressions, and on which of them a rule types.
+/// Whether the loosest sign is `!`, `&&` or `||`.
+fn is_logical(e: &Expr) -> bool {
+    match &e.kind {
+        ExprKind::Unary(op, _) => *op == UnOp::Not,
+        ExprKind::Binary(_, op, _) => *op == And || *op == Or,
+        _ => false,
+    }
+}
+
+/// `fold` and the slow program agree on some thousand expressions, of which enough have a value, a
+/// refusal and neither, and enough are truth values by `!`, `&&` and `||`.
 #[test]
 fn agrees(rt: HostRuntime) -> Result<(), Fail> {
     let alloc = rt.alloc();
     let consts = known(alloc)?;
     let mut chance = Chance { alloc, state: 1 };
-    let mut typed = 0u32;
-    for _ in 0..10_000 {
-        let e = chance.built()?;
-        let want = match slow(e.get()) {
+    let (mut values, mut refusals, mut neither, mut truths) = (0u32, 0u32, 0u32, 0u32);
+    for i in 0..12_000u32 {
+        let e = chance.built(i % 4 == 0)?;
+        let Outcome { value, fault, .. } = slow(e.get());
+        let want = match (value, fault) {
             (Some(Number(a, b)), _) => number_text(alloc, [a.0, a.1, b.0, b.1])?,
             (Some(Truth(value)), _) => format!(in alloc; "{value}")?,
-            (Some(Digits), _) => format!(in alloc; "0110")?,
+            (Some(Digits(digits)), _) => format!(in alloc; "{digits}")?,
             (None, Some((line, col, code))) => format!(in alloc; "{code} {line}:{col}")?,
             (None, None) => format!(in alloc; "no rule")?,
         };
         let told = answer(alloc, e.get(), &consts)?;
         assert_eq!(rt; told.as_str(), want.as_str(), "{e:?}");
-        typed = typed.saturating_add((want.as_str() != "no rule") as u32);
+        values = values.saturating_add(value.is_some() as u32);
+        refusals = refusals.saturating_add(fault.is_some() as u32);
+        neither = neither.saturating_add((value.is_none() && fault.is_none()) as u32);
+        truths = truths.saturating_add((value.is_some() && is_logical(e.get())) as u32);
     }
-    assert!(rt; typed > 4_000);
+    assert!(rt; values > 4_000 && refusals > 1_500 && neither > 4_000 && truths > 500);
     Ok(())
 }

@@ -1,6 +1,7 @@
 ghost use Rattle.std.specs.Prelude.{◌≡◌};
 ghost use Rattle.std.specs.Option.{option_copied};
-ghost use Rattle.qs_const.specs.Folding.{fault_of, first_fault, is_before, made_value, one_folded, own_fault, two_folded, unless_fault, value_of};
+ghost use Rattle.qs_const.specs.Folding.{alone_folded, first_fault, is_before, made_value, one_folded, own_fault, two_folded, unless_fault};
+ghost use Rattle.qs_const.specs.Outcomes.{fault_of, is_at_run_time, tells_truth, value_of};
 
 use crate::made::{Cause, Made};
 use qs_tree::ConstVal;
@@ -13,12 +14,19 @@ pub struct Fault {
     pub cause: Cause,
 }
 
-/// What a part of an expression came to: its value, the first refusal in it, or neither.
+/// What is known of a part without a value: the first refusal in it, where there is one, and whether
+/// its sign tells that it is a truth value.
+#[derive(Clone, Copy, Debug, PartialEq, Eq)]
+pub struct Absent {
+    pub fault: Option<Fault>,
+    pub truth: bool,
+}
+
+/// What a part of an expression came to.
 #[derive(Debug, Drop)]
 pub enum Folded {
     Value(ConstVal),
-    Refused(Fault),
-    Neither,
+    Absent(Absent),
 }
 
 impl Fault {
@@ -44,17 +52,37 @@ impl Folded {
     {
         match self {
             Folded::Value(value) => Some(value),
-            _ => None,
+            Folded::Absent(_) => None,
         }
     }
 
-    /// The refusal, where there is one.
+    /// The first refusal, where there is one.
     fn fault(&self) -> Option<Fault>
         ensures { result ≡ fault_of self.now }
     {
         match self {
-            Folded::Refused(fault) => Some(*fault),
-            _ => None,
+            Folded::Value(_) => None,
+            Folded::Absent(absent) => absent.fault,
+        }
+    }
+
+    /// Whether it has no value and is a truth value by its sign.
+    pub fn tells_truth(&self) -> bool
+        ensures { result ≡ tells_truth self.now }
+    {
+        match self {
+            Folded::Value(_) => false,
+            Folded::Absent(absent) => absent.truth,
+        }
+    }
+
+    /// Whether its first refusal is of a name without a constant.
+    pub fn is_at_run_time(&self) -> bool
+        ensures { result ≡ is_at_run_time self.now }
+    {
+        match self.fault() {
+            Some(fault) => fault.cause.is_unknown_name(),
+            None => false,
         }
     }
 }
@@ -83,47 +111,47 @@ fn own_fault(span: Span, made: &Made) -> Option<Fault>
     }
 }
 
-/// The value that is made, where one is.
-pub fn made_value(made: Made) -> Folded
-    ensures { result ≡ made_value made }
+/// The value that is made, and where none is, whether its sign tells a truth value.
+pub fn made_value(truth: bool, made: Made) -> Folded
+    ensures { result ≡ made_value truth made }
 {
     match made {
         Made::Gives(value) => Folded::Value(value),
-        _ => Folded::Neither,
+        _ => Folded::Absent(Absent { fault: None, truth }),
     }
 }
 
 /// The first refusal, and where there is none what is made.
-fn unless_fault(fault: Option<Fault>, made: Made) -> Folded
-    ensures { result ≡ unless_fault fault made }
+fn unless_fault(truth: bool, fault: Option<Fault>, made: Made) -> Folded
+    ensures { result ≡ unless_fault truth fault made }
 {
     match fault {
-        Some(fault) => Folded::Refused(fault),
-        None => made_value(made),
+        Some(_) => Folded::Absent(Absent { fault, truth }),
+        None => made_value(truth, made),
     }
 }
 
 /// What an operation at a place comes to that has no operands.
 pub fn alone_folded(span: Span, made: Made) -> Folded
-    ensures { result ≡ unless_fault (own_fault span made) made }
+    ensures { result ≡ alone_folded span made }
 {
     let fault = own_fault(span, &made);
-    unless_fault(fault, made)
+    unless_fault(false, fault, made)
 }
 
 /// What an operation at a place comes to, with what its operand came to.
-pub fn one_folded(span: Span, made: Made, operand: &Folded) -> Folded
-    ensures { result ≡ one_folded span made operand.now }
+pub fn one_folded(truth: bool, span: Span, made: Made, operand: &Folded) -> Folded
+    ensures { result ≡ one_folded truth span made operand.now }
 {
     let fault = first_fault(own_fault(span, &made), operand.fault());
-    unless_fault(fault, made)
+    unless_fault(truth, fault, made)
 }
 
 /// What an operation at a place comes to, with what its two operands came to.
-pub fn two_folded(span: Span, made: Made, left: &Folded, right: &Folded) -> Folded
-    ensures { result ≡ two_folded span made left.now right.now }
+pub fn two_folded(truth: bool, span: Span, made: Made, left: &Folded, right: &Folded) -> Folded
+    ensures { result ≡ two_folded truth span made left.now right.now }
 {
     let fault = first_fault(own_fault(span, &made), left.fault());
     let fault = first_fault(fault, right.fault());
-    unless_fault(fault, made)
+    unless_fault(truth, fault, made)
 }

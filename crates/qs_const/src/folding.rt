@@ -6,7 +6,7 @@ ghost use Rattle.qs_const.specs.declared.folded.Folded.TheVariants.{Value};
 ghost use Rattle.qs_const.specs.Trees.{tree_of};
 ghost use Rattle.qs_const.specs.Folding.{FoldIs, Folds, IsFoldable};
 
-use crate::folded::{Folded, alone_folded, made_value, one_folded, two_folded};
+use crate::folded::{Absent, Folded, alone_folded, made_value, one_folded, two_folded};
 use crate::names::{index_made, name_made, text_made};
 use crate::pairs::pair_made;
 use crate::refusal::{ConstRefusal, refused_as};
@@ -33,7 +33,7 @@ pub fn folded(alloc: Global, e: &Expr, consts: &Consts) -> Result<Folded, AllocE
     match &e.kind {
         ExprKind::Whole(value) => Ok(alone_folded(e.span, whole_made(*value as i128))),
         ExprKind::Decimal(value) => Ok(plain_folded(*value)),
-        ExprKind::Text(text) => Ok(made_value(text_made(alloc, text.as_str())?)),
+        ExprKind::Text(text) => Ok(made_value(false, text_made(alloc, text.as_str())?)),
         ExprKind::Truth(value) => Ok(Folded::Value(ConstVal::Truth(*value))),
         ExprKind::Name(name) => {
             let made = name_made(alloc, consts, name.as_str())?;
@@ -42,26 +42,30 @@ pub fn folded(alloc: Global, e: &Expr, consts: &Consts) -> Result<Folded, AllocE
         ExprKind::Index(name, index) => {
             let index = folded(alloc, index.get(), consts)?;
             let made = index_made(consts, name.as_str());
-            Ok(one_folded(e.span, made, &index))
+            Ok(one_folded(false, e.span, made, &index))
         }
         ExprKind::Group(inner) => folded(alloc, inner.get(), consts),
         ExprKind::Unary(op, operand) => {
             let operand = folded(alloc, operand.get(), consts)?;
             let made = sign_made(*op, operand.value());
-            Ok(one_folded(e.span, made, &operand))
+            Ok(one_folded(op.gives_truth(), e.span, made, &operand))
         }
         ExprKind::Binary(left, op, right) => {
             let left = folded(alloc, left.get(), consts)?;
             let right = folded(alloc, right.get(), consts)?;
-            let made = pair_made(*op, left.value(), right.value());
-            Ok(two_folded(e.span, made, &left, &right))
+            let made = pair_made(*op, &left, &right);
+            Ok(two_folded(op.gives_truth(), e.span, made, &left, &right))
         }
         ExprKind::Number(value) => Ok(Folded::Value(ConstVal::Number(*value))),
-        _ => Ok(Folded::Neither),
+        _ => Ok(Folded::Absent(Absent {
+            fault: None,
+            truth: false,
+        })),
     }
 }
 
-/// The value of a constant expression, whose names have these constants.
+/// The value of a constant expression, whose names have these constants. It has to have a value or a
+/// refusal.
 ///
 /// # Errors
 /// The first refusal in the order of the text, at the first token of the part that is refused: of
@@ -73,7 +77,9 @@ pub fn fold(alloc: Global, e: &Expr, consts: &Consts) -> Result<ConstVal, ConstR
 {
     match folded(alloc, e, consts)? {
         Folded::Value(value) => Ok(value),
-        Folded::Refused(fault) => Err(refused_as(fault)),
-        Folded::Neither => unreachable!(),
+        Folded::Absent(absent) => match absent.fault {
+            Some(fault) => Err(refused_as(fault)),
+            None => unreachable!(),
+        },
     }
 }

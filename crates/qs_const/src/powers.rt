@@ -1,46 +1,47 @@
-ghost use Rattle.std.specs.Option.{option_copied};
-ghost use Rattle.qs_const.specs.Operations.{IsPower, PowerMakes, RaisedIs};
-ghost use Rattle.qs_const.specs.Wholes.{ExponentIs};
+ghost use Rattle.std.specs.Prelude.{◌≡◌};
+ghost use Rattle.qs_const.specs.Operations.{IsPower, PowerMakes, RaisedIs, refused_power};
 
+use crate::folded::Folded;
 use crate::made::{Cause, Made};
-use crate::whole::{count, number_made, whole};
+use crate::whole::{count, number_made};
 use qs_tree::ConstVal;
 use qs_values::{Frac, Num, NumRefusal};
 
-/// A number to a power. Whatever the number is, a constant exponent that isn't a whole number from
-/// 0 to 63 is `BadPower`; other operands make nothing.
-pub fn power_made(left: Option<&ConstVal>, right: Option<&ConstVal>) -> Made
-    ensures { PowerMakes (option_copied left.entry) (option_copied right.entry) result }
+/// A number to a power. Whatever the number is, an exponent that can't be a whole number from 0 to
+/// 63 is `BadPower`, and so is a power at run time: one with an operand that is refused first for a
+/// name without a constant. Other operands make nothing.
+pub fn power_made(left: &Folded, right: &Folded) -> Made
+    ensures { PowerMakes left.now right.now result }
 {
     match right {
-        Some(v) => match exponent(v) {
+        Folded::Value(v) => match count(Some(v)) {
             Some(n) => raised(left, n),
             None => Made::Breaks(Cause::BadPower),
         },
-        None => Made::Nothing,
+        Folded::Absent(_) => refused_power(
+            left.is_at_run_time() || right.is_at_run_time() || right.tells_truth(),
+        ),
     }
 }
 
-/// The exponent that a constant is, or `None` where it isn't a whole number from 0 to 63.
-fn exponent(v: &ConstVal) -> Option<u32>
-    ensures { ExponentIs v.now result }
+/// `BadPower` for a power that is refused, and nothing for any other.
+fn refused_power(refused: bool) -> Made
+    ensures { result ≡ refused_power refused }
 {
-    match v {
-        ConstVal::Number(y) => match whole(y) {
-            Some(k) => count(k),
-            None => None,
-        },
-        _ => None,
+    if refused {
+        Made::Breaks(Cause::BadPower)
+    } else {
+        Made::Nothing
     }
 }
 
-/// A number to the n-th power; another operand makes nothing.
-fn raised(left: Option<&ConstVal>, n: u32) -> Made
-    ensures { RaisedIs (option_copied left.entry) n result }
+/// What a part makes to the n-th power.
+fn raised(left: &Folded, n: u32) -> Made
+    ensures { RaisedIs left.now n result }
 {
     match left {
-        Some(ConstVal::Number(x)) => number_made(power(x, n)),
-        _ => Made::Nothing,
+        Folded::Value(ConstVal::Number(x)) => number_made(power(x, n)),
+        _ => refused_power(left.is_at_run_time()),
     }
 }
 

@@ -2,34 +2,37 @@ ghost use Rattle.std.specs.Prelude.{◌≢◌, pos};
 ghost use Rattle.std.specs.Option.{option_copied};
 ghost use Rattle.qs_const.specs.Operations.{DividesOther, OfWholes, QuotientMakes, RemainderMakes, Remains};
 
+use crate::folded::Folded;
 use crate::made::{Cause, Made};
 use crate::whole::{number_made, whole, whole_made, whole_operand};
 use qs_tree::ConstVal;
 use qs_values::Num;
 
-/// The quotient of two numbers. Whatever the dividend is, a divisor 0 is `ByZero`, and one that no
-/// such dividend has a quotient by is `ByPi`; other operands make nothing.
-pub fn quotient_made(left: Option<&ConstVal>, right: Option<&ConstVal>) -> Made
-    ensures { QuotientMakes (option_copied left.entry) (option_copied right.entry) result }
+/// The quotient of two numbers. Whatever the dividend is, a divisor 0 is `ByZero`, and one with pi
+/// is `ByPi` where the dividend can't be a number or the divisor has a plain part too; other
+/// operands make nothing.
+pub fn quotient_made(left: &Folded, right: Option<&ConstVal>) -> Made
+    ensures { QuotientMakes left.now (option_copied right.entry) result }
 {
     match (left, right) {
-        (Some(ConstVal::Number(x)), Some(ConstVal::Number(y))) => number_made(x.div(y)),
+        (Folded::Value(ConstVal::Number(x)), Some(ConstVal::Number(y))) => number_made(x.div(y)),
         (_, Some(ConstVal::Number(y))) => divided_by(left, y),
         _ => Made::Nothing,
     }
 }
 
-/// What a divisor makes of a dividend that is no number, or unknown.
-fn divided_by(left: Option<&ConstVal>, y: &Num) -> Made
-    ensures { DividesOther (option_copied left.entry) y.now result }
+/// What a divisor makes of a dividend that is no number, or has no value.
+fn divided_by(left: &Folded, y: &Num) -> Made
+    ensures { DividesOther left.now y.now result }
 {
+    let is_plain = y.plain.num() != 0;
     if y.pi.num() == 0 {
-        if y.plain.num() == 0 {
-            Made::Breaks(Cause::ByZero)
-        } else {
+        if is_plain {
             Made::Nothing
+        } else {
+            Made::Breaks(Cause::ByZero)
         }
-    } else if left.is_some() || y.plain.num() != 0 {
+    } else if left.value().is_some() || left.tells_truth() || is_plain {
         Made::Breaks(Cause::ByPi)
     } else {
         Made::Nothing

@@ -1,5 +1,5 @@
 ghost use Rattle.std.specs.Prelude.{◌≡◌};
-ghost use Rattle.qs_const.specs.Folding.{refused_as};
+ghost use Rattle.qs_const.specs.Codes.{fault_told};
 
 use crate::folded::Fault;
 use crate::made::Cause;
@@ -9,8 +9,8 @@ use std::alloc::AllocError;
 /// Why a constant expression has no value, and where: the first refusal in the order of the text.
 #[derive(Clone, Copy, Debug, PartialEq, Eq)]
 pub enum ConstRefusal {
-    /// A part of a number reaches 10^18 in lowest terms, a result doesn't fit, or a shift's count
-    /// isn't from 0 to 63.
+    /// A part of a number reaches 10^18 in lowest terms, a result doesn't fit, or a shift's count is
+    /// below 0 or above 63.
     TooWide { span: Span },
     /// A product of two numbers with pi.
     PiTimesPi { span: Span },
@@ -18,7 +18,7 @@ pub enum ConstRefusal {
     ByZero { span: Span },
     /// A divisor with pi, but for a quotient of two multiples of pi alone.
     ByPi { span: Span },
-    /// An exponent that isn't a whole constant from 0 to 63.
+    /// An exponent that isn't a whole constant from 0 to 63, or a power of a name without a constant.
     BadPower { span: Span },
     /// A name without a constant.
     NotConst { span: Span },
@@ -27,20 +27,42 @@ pub enum ConstRefusal {
 }
 
 impl ConstRefusal {
-    ghost use Rattle.qs_const.specs.Codes.{number_of};
+    ghost use Rattle.std.specs.Option.{option_map};
+    ghost use Rattle.qs_const.specs.Codes.{fault_told, number_of};
+
+    /// The fault that it tells; want of memory tells none.
+    fn fault(&self) -> Option<Fault>
+        ensures { result ≡ fault_told self.now }
+    {
+        let (span, cause) = match self {
+            ConstRefusal::TooWide { span } => (*span, Cause::TooWide),
+            ConstRefusal::PiTimesPi { span } => (*span, Cause::PiTimesPi),
+            ConstRefusal::ByZero { span } => (*span, Cause::ByZero),
+            ConstRefusal::ByPi { span } => (*span, Cause::ByPi),
+            ConstRefusal::BadPower { span } => (*span, Cause::BadPower),
+            ConstRefusal::NotConst { span } => (*span, Cause::NotConst),
+            ConstRefusal::Memory => return None,
+        };
+        Some(Fault { span, cause })
+    }
 
     /// The refusal's number, from 121 to 126, and 0 for want of memory.
     pub fn code(&self) -> u16
         ensures { result ≡ number_of self.now }
     {
-        match self {
-            ConstRefusal::TooWide { .. } => 121,
-            ConstRefusal::PiTimesPi { .. } => 122,
-            ConstRefusal::ByZero { .. } => 123,
-            ConstRefusal::ByPi { .. } => 124,
-            ConstRefusal::BadPower { .. } => 125,
-            ConstRefusal::NotConst { .. } => 126,
-            ConstRefusal::Memory => 0,
+        match self.fault() {
+            Some(fault) => fault.cause.code(),
+            None => 0,
+        }
+    }
+
+    /// Where the refusal is; want of memory has no place.
+    pub fn span(&self) -> Option<Span>
+        ensures { result ≡ option_map (λ fault. fault.span) (fault_told self.now) }
+    {
+        match self.fault() {
+            Some(fault) => Some(fault.span),
+            None => None,
         }
     }
 }
@@ -55,9 +77,9 @@ impl From<AllocError> for ConstRefusal {
     }
 }
 
-/// A refusal as the call answers it.
+/// A fault as the call answers it.
 pub fn refused_as(fault: Fault) -> ConstRefusal
-    ensures { result ≡ refused_as fault }
+    ensures { fault_told result ≡ Some fault }
 {
     let span = fault.span;
     match fault.cause {

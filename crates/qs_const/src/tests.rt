@@ -1,4 +1,4 @@
-use crate::folded::Folded;
+use crate::folded::{Absent, Folded};
 use crate::folding::folded;
 use crate::{ConstRefusal, fold};
 use qs_lexer::{Token, TokenKind, lex};
@@ -17,7 +17,7 @@ enum Open {
 }
 
 /// The signs between two operands, and how tightly each binds; one before its operand has 11.
-static BETWEEN: [(&str, BinOp, u8); 19] = [
+pub static BETWEEN: [(&str, BinOp, u8); 19] = [
     ("**", BinOp::Power, 12),
     ("*", BinOp::Mul, 10),
     ("/", BinOp::Div, 10),
@@ -279,7 +279,7 @@ n => 5/1; n + 2 => 7/1; half * 4 => 2/1; mixed => 3/1 + 2/1 pi; mixed - 3 => 0/1
 (z) => 126 1:2; -z => 126 1:2; !z => 126 1:2; z + 0 => 126 1:1; 0 + z => 126 1:5
 z && true => 126 1:1; z + y => 126 1:1; z * pi => 126 1:1; z/2 => 126 1:1; z/0 => 123 1:1
 z/pi => 126 1:1; z/(1 + pi) => 124 1:1; 1/z => 126 1:3; z % 0 => 123 1:1; z % pi => 124 1:1
-z % 3 => 126 1:1; z**2 => 126 1:1; z**64 => 125 1:1; z**true => 125 1:1; 2**z => 126 1:4
+z % 3 => 126 1:1; z**2 => 125 1:1; z**64 => 125 1:1; z**true => 125 1:1; 2**z => 125 1:1
 z << 2 => 126 1:1; z << 64 => 121 1:1; z >> -1 => 121 1:1; 1 << z => 126 1:6; z[1] => 126 1:1
 z[1/0] => 126 1:1; z[1]/0 => 123 1:1
 # the first of two refusals
@@ -312,28 +312,11 @@ pub fn number_text(alloc: Global, [a, b, c, d]: [i128; 4]) -> Result<String, Fai
     })
 }
 
-/// A refusal by its code and place.
-fn refusal_text(alloc: Global, refusal: &ConstRefusal) -> Result<String, Fail> {
-    let code = refusal.code();
-    Ok(match refusal {
-        ConstRefusal::TooWide { span }
-        | ConstRefusal::PiTimesPi { span }
-        | ConstRefusal::ByZero { span }
-        | ConstRefusal::ByPi { span }
-        | ConstRefusal::BadPower { span }
-        | ConstRefusal::NotConst { span } => format!(in alloc;
-            "{code} {}:{}",
-            span.line, span.col
-        )?,
-        ConstRefusal::Memory => format!(in alloc; "memory")?,
-    })
-}
-
 /// What `fold` answers: a value's parts, or a refusal; and where no rule types the expression, that.
 pub fn answer(alloc: Global, e: &Expr, consts: &Consts) -> Result<String, Fail> {
     match folded(alloc, e, consts)? {
-        Folded::Value(_) | Folded::Refused(_) => {}
-        Folded::Neither => return Ok(format!(in alloc; "no rule")?),
+        Folded::Absent(Absent { fault: None, .. }) => return Ok(format!(in alloc; "no rule")?),
+        _ => {}
     }
     Ok(match fold(alloc, e, consts) {
         Ok(ConstVal::Number(Num { plain, pi })) => {
@@ -341,7 +324,10 @@ pub fn answer(alloc: Global, e: &Expr, consts: &Consts) -> Result<String, Fail> 
         }
         Ok(ConstVal::Truth(value)) => format!(in alloc; "{value}")?,
         Ok(ConstVal::Bits(digits)) => format!(in alloc; "{}", digits.as_str())?,
-        Err(refusal) => refusal_text(alloc, &refusal)?,
+        Err(refusal) => {
+            let Span { line, col } = refusal.span().ok_or("memory")?;
+            format!(in alloc; "{} {line}:{col}", refusal.code())?
+        }
     })
 }
 

@@ -1,7 +1,7 @@
 ghost use Rattle.std.specs.Prelude.{◌≡◌, ◌<◌, ◌^◌, unsigned_abs};
 ghost use Rattle.std.specs.Option.{option_copied};
 ghost use Rattle.qs_const.specs.Operations.{MakesWhole, number_made};
-ghost use Rattle.qs_const.specs.Wholes.{CountIs, OperandIs, WholeIs};
+ghost use Rattle.qs_const.specs.Wholes.{CountIs, NoCountMakes, OperandIs, WholeIs};
 
 use crate::made::{Cause, Made};
 use qs_tree::ConstVal;
@@ -28,14 +28,29 @@ pub fn whole_operand(operand: Option<&ConstVal>) -> Option<i64>
     }
 }
 
-/// A whole number as a count from 0 to 63, or `None` where it is outside.
-pub fn count(k: i64) -> Option<u32>
-    ensures { CountIs k result }
+/// The count from 0 to 63 that an operand is, or `None` where it is none.
+pub fn count(operand: Option<&ConstVal>) -> Option<u32>
+    ensures { CountIs (option_copied operand.entry) result }
 {
-    if 0 <= k && k <= 63 {
-        Some(k as u32)
+    match whole_operand(operand) {
+        Some(k) if 0 <= k && k <= 63 => Some(k as u32),
+        _ => None,
+    }
+}
+
+/// What an operand that is no count makes as one: `TooWide`, where it has no pi and is below 0 or
+/// above 63.
+pub fn no_count_made(operand: Option<&ConstVal>) -> Made
+    ensures { NoCountMakes (option_copied operand.entry) result }
+{
+    let Some(ConstVal::Number(y)) = operand else {
+        return Made::Nothing;
+    };
+    let num = y.plain.num();
+    if y.pi.num() == 0 && (num < 0 || num > 63 * y.plain.den()) {
+        Made::Breaks(Cause::TooWide)
     } else {
-        None
+        Made::Nothing
     }
 }
 

@@ -1,3 +1,6 @@
+ghost use Rattle.std.specs.Prelude.{◌≡◌};
+ghost use Rattle.qs_tree.specs.Truths.{bin_gives_truth, un_gives_truth};
+
 /// A sign before its operand.
 #[derive(Clone, Copy, Debug, PartialEq, Eq)]
 pub enum UnOp {
@@ -7,6 +10,18 @@ pub enum UnOp {
     Neg,
     /// `~`
     Invert,
+}
+
+impl UnOp {
+    /// Whether it makes truth values alone.
+    pub fn gives_truth(self) -> bool
+        ensures { result ≡ un_gives_truth self }
+    {
+        match self {
+            UnOp::Not => true,
+            UnOp::Neg | UnOp::Invert => false,
+        }
+    }
 }
 
 /// A sign between its operands, from the tightest to the loosest.
@@ -50,4 +65,23 @@ pub enum BinOp {
     And,
     /// `||`
     Or,
+}
+
+impl BinOp {
+    /// Whether it makes truth values alone: a comparison, `&&` and `||`.
+    pub fn gives_truth(self) -> bool
+        ensures { result ≡ bin_gives_truth self }
+    {
+        match self {
+            BinOp::Less
+            | BinOp::LessEqual
+            | BinOp::Greater
+            | BinOp::GreaterEqual
+            | BinOp::Equal
+            | BinOp::NotEqual
+            | BinOp::And
+            | BinOp::Or => true,
+            _ => false,
+        }
+    }
 }
