@@ -1,4 +1,4 @@
--- The ports and waveforms of a plan's pulses.
+-- The ports and waveforms of a plan's pulses. This project's own.
 use Rattle.std.specs.Prelude.{ℕ, All}
 use Rattle.plan_tree.specs.declared.plan.Deed.{Deed}
 use Rattle.plan_tree.specs.declared.plan.Deed.TheVariants.{Pulse}
