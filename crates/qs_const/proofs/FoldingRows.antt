@@ -1,5 +1,5 @@
--- Small cases of the definitions: names, texts, and which refusal comes first.
-use Rattle.std.proofs.Common.{◌≡◌, ℕ, [], ◌∷◌, true, false, ◌≢◌, Some, None, Ok, Err, refl, inl, inr, arith, pos}
+-- Small cases of the definitions: names, and which refusal comes first.
+use Rattle.std.proofs.Common.{◌≡◌, ℕ, [], true, false, ◌≢◌, Some, None, Ok, Err, refl, inl, inr, arith, pos}
 use Rattle.std.specs.Prelude.{codes}
 use Rattle.std.proofs.lemmas.Int.{ints}
 use Rattle.qs_values.specs.declared.span.Span.{Span}
@@ -7,7 +7,7 @@ use Rattle.qs_values.specs.declared.number.Frac.{Frac}
 use Rattle.qs_values.specs.declared.number.Num.{Num}
 use Rattle.qs_values.specs.Number.{IsFrac, NumberIs}
 use Rattle.qs_values.specs.declared.refusal.NumRefusal.TheVariants.{ByZero as NoDivisor}
-use Rattle.qs_tree.specs.declared.constant.ConstVal.TheVariants.{Number, Truth, Bits}
+use Rattle.qs_tree.specs.declared.constant.ConstVal.TheVariants.{Number, Truth}
 use Rattle.qs_tree.specs.declared.operator.UnOp.TheVariants.{Neg, Not}
 use Rattle.qs_tree.specs.declared.operator.BinOp.TheVariants.{Add, Div, Power}
 use Rattle.qs_const.specs.declared.made.Cause.TheVariants.{ByZero, ByPi, BadPower, NotConst}
@@ -15,28 +15,16 @@ use Rattle.qs_const.specs.declared.made.Made.TheVariants.{Gives, Breaks, Nothing
 use Rattle.qs_const.specs.declared.folded.Folded.{Folded}
 use Rattle.qs_const.specs.declared.folded.Folded.TheVariants.{Value}
 use Rattle.qs_const.specs.Trees.{Integer, Truthful, Named, Signed, Joined}
-use Rattle.qs_const.specs.Folding.{Folds, constant_in, inner_text, text_made, times_pi}
+use Rattle.qs_const.specs.Folding.{Folds, times_pi}
 use Rattle.qs_const.specs.Outcomes.{without_value}
 
--- ---- names and texts
+-- ---- names
 
 two_pi : times_pi (codes "tau") ≡ Some 2
 two_pi = refl
 
 no_pi : times_pi (codes "pis") ≡ None
 no_pi = refl
-
-first_counts : constant_in (record { name = codes "k"; value = Truth true } ∷ record { name = codes "k"; value = Truth false } ∷ []) (codes "k") ≡ Some (Truth true)
-first_counts = refl
-
-digits : text_made (inner_text (codes "\"0_1\"")) ≡ Gives (Bits (48 ∷ 49 ∷ []))
-digits = refl
-
-two_between : text_made (codes "0__1") ≡ Nothing
-two_between = refl
-
-no_digit : text_made (inner_text (codes "\"\"")) ≡ Nothing
-no_digit = refl
 
 -- ---- the first refusal
 

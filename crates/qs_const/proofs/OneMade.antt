@@ -1,5 +1,5 @@
 -- What an operation on constants makes is one thing.
-use Rattle.std.proofs.Common.{◌≡◌, ◌≢◌, ◌+◌, ◌*◌, ◌^◌, ◌<◌, ℕ, zero, suc, ap, sym, ◌∙◌, subst, arith, ℤ, pos, ◌+ℤ◌, ◌-ℤ◌, ◌*ℤ◌, ◌<ℤ◌, ◌≤ℤ◌, inl, inr, Bool, true≢false, Option, Some, None, Result, Ok, Err}
+use Rattle.std.proofs.Common.{◌≡◌, ◌≢◌, ◌+◌, ◌*◌, ◌^◌, ◌<◌, ℕ, zero, suc, ap, sym, ◌∙◌, subst, arith, ℤ, pos, ◌+ℤ◌, ◌-ℤ◌, ◌*ℤ◌, ◌<ℤ◌, ◌≤ℤ◌, inl, inr, true≢false, Option, Some, None, Result, Ok, Err}
 use Rattle.std.proofs.Math.Nat.{lt_of_mul-lt-mul_right}
 use Rattle.std.proofs.lemmas.Int.{ints}
 use borrow.Author.Differences.{up, down}
@@ -12,11 +12,10 @@ use Rattle.qs_tree.specs.declared.operator.UnOp.TheVariants.{Not, Neg, Invert}
 use Rattle.qs_tree.specs.declared.operator.BinOp.{BinOp}
 use Rattle.qs_tree.specs.declared.operator.BinOp.TheVariants.{Power, Mul, Div, Rem, Add, Sub, ShiftLeft, ShiftRight, Less, LessEqual, Greater, GreaterEqual, Equal, NotEqual, BitAnd, BitXor, BitOr, And, Or}
 use Rattle.qs_const.specs.declared.made.Made.{Made}
-use Rattle.qs_const.specs.declared.made.Made.TheVariants.{Gives}
 use Rattle.qs_const.specs.declared.folded.Folded.{Folded}
 use Rattle.qs_const.specs.declared.folded.Folded.TheVariants.{Value, Absent}
 use Rattle.qs_const.specs.Outcomes.{value_of}
-use Rattle.qs_const.specs.Operations.{ByResult, DividesOther, HasNoQuotient, IsCount, IsExponent, IsNoExponent, IsNothing, IsNotWhole, IsOutside, IsPower, IsWhole, MakesNumber, MakesWhole, MayHaveQuotient, OfAlike, OfNumbers, OfTruths, OfWholes, OnWholes, PairMakes, PowerMakes, QuotientMakes, RaisedIs, RemainderMakes, Remains, ShiftMakes, ShiftedIs, ShiftsDown, ShiftsUp, SignIs, Times, number_made}
+use Rattle.qs_const.specs.Operations.{AlikeMakes, ByResult, DividesOther, HasNoQuotient, IsCount, IsExponent, IsNoExponent, IsNothing, IsNotWhole, IsOutside, IsPower, IsWhole, MakesNumber, MakesWhole, MayHaveQuotient, OfNumbers, OfWholes, OnWholes, PairMakes, PowerMakes, QuotientMakes, RaisedIs, RemainderMakes, Remains, ShiftMakes, ShiftedIs, ShiftsDown, ShiftsUp, SignIs, Times, WholesMake, number_made}
 use Rattle.qs_values.proofs.OneNumber.{difference_once, nonzero_den, number_once, one_nonzero, product_once, ratio_once, sum_once}
 
 -- a relation that at most one thing meets
@@ -84,26 +83,35 @@ on_wholes Makes once x y m n (inr (parted, e)) (inr (also, f)) = e ∙ sym f
 of_wholes : (Makes : ℤ → ℤ → Made → Type 0) → ((j k : ℤ) → Once (Makes j k)) → (left right : Option ConstVal) → Once (OfWholes Makes left right)
 of_wholes Makes once = of_numbers (OnWholes Makes) (on_wholes Makes once)
 
-compared : (test : ℤ → ℤ → Bool) (left right : Option ConstVal) → Once (OfWholes (λ j k made. made ≡ Gives (Truth (test j k))) left right)
-compared test = of_wholes _ (λ j k m n p q. p ∙ sym q)
+wholes_once : (op : BinOp) (j k : ℤ) → Once (WholesMake op j k)
+wholes_once Power j k m n p q = p ∙ sym q
+wholes_once Mul j k m n p q = p ∙ sym q
+wholes_once Div j k m n p q = p ∙ sym q
+wholes_once Rem j k m n p q = p ∙ sym q
+wholes_once Add j k m n p q = p ∙ sym q
+wholes_once Sub j k m n p q = p ∙ sym q
+wholes_once ShiftLeft j k m n p q = p ∙ sym q
+wholes_once ShiftRight j k m n p q = p ∙ sym q
+wholes_once Less j k m n p q = p ∙ sym q
+wholes_once LessEqual j k m n p q = p ∙ sym q
+wholes_once Greater j k m n p q = p ∙ sym q
+wholes_once GreaterEqual j k m n p q = p ∙ sym q
+wholes_once Equal j k m n p q = p ∙ sym q
+wholes_once NotEqual j k m n p q = p ∙ sym q
+wholes_once BitAnd j k m n p q = makes_whole _ m n p q
+wholes_once BitXor j k m n p q = makes_whole _ m n p q
+wholes_once BitOr j k m n p q = makes_whole _ m n p q
+wholes_once And j k m n p q = p ∙ sym q
+wholes_once Or j k m n p q = p ∙ sym q
 
-of_truths : (op : Bool → Bool → Bool) (left right : Option ConstVal) → Once (OfTruths op left right)
-of_truths op None right m n p q = p ∙ sym q
-of_truths op (Some (Number x)) right m n p q = p ∙ sym q
-of_truths op (Some (Bits b)) right m n p q = p ∙ sym q
-of_truths op (Some (Truth a)) None m n p q = p ∙ sym q
-of_truths op (Some (Truth a)) (Some (Number y)) m n p q = p ∙ sym q
-of_truths op (Some (Truth a)) (Some (Bits b)) m n p q = p ∙ sym q
-of_truths op (Some (Truth a)) (Some (Truth b)) m n p q = p ∙ sym q
-
-of_alike : (op : Bool → Bool → Bool) (test : ℤ → ℤ → Bool) (left right : Option ConstVal) → Once (OfAlike op test left right)
-of_alike op test None right m n p q = compared test None right m n p q
-of_alike op test (Some (Number x)) right m n p q = compared test (Some (Number x)) right m n p q
-of_alike op test (Some (Bits b)) right m n p q = compared test (Some (Bits b)) right m n p q
-of_alike op test (Some (Truth a)) None m n p q = compared test (Some (Truth a)) None m n p q
-of_alike op test (Some (Truth a)) (Some (Number y)) m n p q = compared test (Some (Truth a)) (Some (Number y)) m n p q
-of_alike op test (Some (Truth a)) (Some (Bits b)) m n p q = compared test (Some (Truth a)) (Some (Bits b)) m n p q
-of_alike op test (Some (Truth a)) (Some (Truth b)) m n p q = p ∙ sym q
+of_alike : (op : BinOp) (left right : Option ConstVal) → Once (AlikeMakes op left right)
+of_alike op None right m n p q = of_wholes (WholesMake op) (wholes_once op) None right m n p q
+of_alike op (Some (Number x)) right m n p q = of_wholes (WholesMake op) (wholes_once op) (Some (Number x)) right m n p q
+of_alike op (Some (Bits b)) right m n p q = of_wholes (WholesMake op) (wholes_once op) (Some (Bits b)) right m n p q
+of_alike op (Some (Truth a)) None m n p q = p ∙ sym q
+of_alike op (Some (Truth a)) (Some (Number y)) m n p q = p ∙ sym q
+of_alike op (Some (Truth a)) (Some (Bits b)) m n p q = p ∙ sym q
+of_alike op (Some (Truth a)) (Some (Truth b)) m n p q = p ∙ sym q
 
 -- ---- quotients and remainders
 
@@ -245,14 +253,14 @@ pair_once Add left right = of_numbers _ (by_result _ sum_once) (value_of left) (
 pair_once Sub left right = of_numbers _ (by_result _ difference_once) (value_of left) (value_of right)
 pair_once ShiftLeft left right = shift_once ShiftsUp (λ j n. makes_whole _) (value_of left) (value_of right)
 pair_once ShiftRight left right = shift_once ShiftsDown shifts_down (value_of left) (value_of right)
-pair_once Less left right = compared _ (value_of left) (value_of right)
-pair_once LessEqual left right = compared _ (value_of left) (value_of right)
-pair_once Greater left right = compared _ (value_of left) (value_of right)
-pair_once GreaterEqual left right = compared _ (value_of left) (value_of right)
-pair_once Equal left right = of_alike _ _ (value_of left) (value_of right)
-pair_once NotEqual left right = of_alike _ _ (value_of left) (value_of right)
-pair_once BitAnd left right = of_wholes _ (λ j k. makes_whole _) (value_of left) (value_of right)
-pair_once BitXor left right = of_wholes _ (λ j k. makes_whole _) (value_of left) (value_of right)
-pair_once BitOr left right = of_wholes _ (λ j k. makes_whole _) (value_of left) (value_of right)
-pair_once And left right = of_truths _ (value_of left) (value_of right)
-pair_once Or left right = of_truths _ (value_of left) (value_of right)
+pair_once Less left right = of_alike Less (value_of left) (value_of right)
+pair_once LessEqual left right = of_alike LessEqual (value_of left) (value_of right)
+pair_once Greater left right = of_alike Greater (value_of left) (value_of right)
+pair_once GreaterEqual left right = of_alike GreaterEqual (value_of left) (value_of right)
+pair_once Equal left right = of_alike Equal (value_of left) (value_of right)
+pair_once NotEqual left right = of_alike NotEqual (value_of left) (value_of right)
+pair_once BitAnd left right = of_alike BitAnd (value_of left) (value_of right)
+pair_once BitXor left right = of_alike BitXor (value_of left) (value_of right)
+pair_once BitOr left right = of_alike BitOr (value_of left) (value_of right)
+pair_once And left right = of_alike And (value_of left) (value_of right)
+pair_once Or left right = of_alike Or (value_of left) (value_of right)

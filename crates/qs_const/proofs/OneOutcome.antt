@@ -8,10 +8,11 @@ use Rattle.qs_tree.specs.declared.expr.Expr.{Expr}
 use Rattle.qs_const.specs.declared.made.Made.{Made}
 use Rattle.qs_const.specs.declared.folded.Folded.{Folded}
 use Rattle.qs_const.specs.declared.folded.Folded.TheVariants.{Value}
+use Rattle.qs_tree.specs.Constants.{constant_in}
 use Rattle.qs_tree.specs.Truths.{bin_gives_truth, un_gives_truth}
 use Rattle.qs_const.specs.Outcomes.{value_of}
 use Rattle.qs_const.specs.Trees.{Tree, Integer, Fraction, Given, Quoted, Truthful, Named, Indexed, Enclosed, Signed, Joined, Other, tree_of}
-use Rattle.qs_const.specs.Folding.{Folds, IndexMakes, IsFoldable, IsTold, NameMakes, alone_folded, constant_in, one_folded, times_pi, two_folded}
+use Rattle.qs_const.specs.Folding.{Folds, IndexMakes, IsFoldable, IsTold, NameMakes, alone_folded, one_folded, times_pi, two_folded}
 use Rattle.qs_const.specs.Operations.{PairMakes, SignIs}
 use Rattle.qs_values.proofs.OneNumber.{number_once, one_nonzero, one_zero, same_number}
 use Rattle.qs_const.proofs.OneMade.{Once, makes_whole, pair_once, sign_once}

@@ -1,11 +1,9 @@
 -- What a constant expression comes to: its value, or its first refusal in the order of the text. This project's own.
-use Rattle.std.specs.Prelude.{◌≡◌, ◌≢◌, ℕ, ◌-◌, pos, List, [], ◌∷◌, Bool, false, ◌&&◌, ◌||◌, if◌then◌else◌, nat_eq, nat_lt, nat_le, codes, drop, take, length, Option, Some, None, Result, Ok, Err}
-use Rattle.std.specs.List.{filter}
+use Rattle.std.specs.Prelude.{◌≡◌, ◌≢◌, ℕ, pos, List, [], ◌∷◌, Bool, false, ◌&&◌, ◌||◌, if◌then◌else◌, nat_eq, nat_lt, codes, Option, Some, None, Result, Ok, Err}
 use Rattle.std.specs.Str.{bytes_eq}
 use Rattle.qs_values.specs.Number.{IsZero, NumberIs}
 use Rattle.qs_values.specs.declared.number.Num.{Num}
 use Rattle.qs_values.specs.declared.span.Span.{Span}
-use Rattle.qs_lexer.specs.Forms.{goes_on, is_binary_digit}
 use Rattle.qs_tree.specs.declared.constant.Const.{Const}
 use Rattle.qs_tree.specs.declared.constant.Consts.{Consts}
 use Rattle.qs_tree.specs.declared.constant.ConstVal.{ConstVal}
@@ -19,6 +17,8 @@ use Rattle.qs_const.specs.declared.folded.Folded.{Folded}
 use Rattle.qs_const.specs.declared.folded.Folded.TheVariants.{Value, Absent}
 use Rattle.qs_const.specs.declared.refusal.ConstRefusal.{ConstRefusal}
 use Rattle.qs_const.specs.Trees.{Tree, Integer, Fraction, Given, Quoted, Truthful, Named, Indexed, Enclosed, Signed, Joined, Other, tree_of}
+use Rattle.qs_tree.specs.Constants.{constant_in}
+use Rattle.qs_tree.specs.Texts.{bits_of}
 use Rattle.qs_tree.specs.Truths.{bin_gives_truth, un_gives_truth}
 use Rattle.qs_const.specs.Codes.{code_of, fault_told}
 use Rattle.qs_const.specs.Outcomes.{fault_of, value_of, without_value}
@@ -73,11 +73,6 @@ times_pi name =
     if bytes_eq name (codes "pi") || bytes_eq name (207 ∷ 128 ∷ []) then Some 1
     else (if bytes_eq name (codes "tau") || bytes_eq name (207 ∷ 132 ∷ []) then Some 2 else None)
 
--- the constant of a name
-abbrev pub constant_in : List Const → List ℕ → Option ConstVal
-constant_in [] name = None
-constant_in (c ∷ cs) name = if bytes_eq c.name name then Some c.value else constant_in cs name
-
 -- what a name makes: a multiple of pi, its constant, or the refusal that it has none
 abbrev pub NameMakes : List Const → List ℕ → Made → Type 0
 NameMakes consts name made = elim (times_pi name) [
@@ -92,17 +87,9 @@ IndexMakes consts name made = elim (times_pi name) [
   | None ↦ elim (constant_in consts name) [ Some v ↦ made ≡ Nothing | None ↦ made ≡ Breaks NotConst ]
 ]
 
--- what stands between the quotes
-abbrev pub inner_text : List ℕ → List ℕ
-inner_text text = take (length text - 2) (drop 1 text)
-
--- the digits of a text
-abbrev pub digits_alone : List ℕ → List ℕ
-digits_alone text = filter is_binary_digit text
-
--- what a text makes: its digits `0` and `1`, with single `_` between, from 1 to 64
+-- what a text in quotes makes: its digits
 abbrev pub text_made : List ℕ → Made
-text_made text = if goes_on is_binary_digit false text && nat_le (length (digits_alone text)) 64 then Gives (Bits (digits_alone text)) else Nothing
+text_made text = elim (bits_of text) [ Some digits ↦ Gives (Bits digits) | None ↦ Nothing ]
 
 -- ---- all of it
 
@@ -111,7 +98,7 @@ abbrev pub Folds : List Const → Tree → Folded → Type 0
 Folds consts (Integer span n) f = (made : Made) × MakesWhole (pos n) made × (f ≡ alone_folded span made)
 Folds consts (Fraction q) f = (x : Num) × (x.plain ≡ q) × IsZero x.pi × (f ≡ Value (Number x))
 Folds consts (Given x) f = f ≡ Value (Number x)
-Folds consts (Quoted text) f = f ≡ made_value false (text_made (inner_text text))
+Folds consts (Quoted text) f = f ≡ made_value false (text_made text)
 Folds consts (Truthful b) f = f ≡ Value (Truth b)
 Folds consts (Named span name) f = (made : Made) × NameMakes consts name made × (f ≡ alone_folded span made)
 Folds consts (Indexed span name index) f =

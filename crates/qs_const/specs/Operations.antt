@@ -87,24 +87,36 @@ OfWholes Makes left right made = OfNumbers (OnWholes Makes) left right made
 abbrev pub int_equal : ℤ → ℤ → Bool
 int_equal j k = int_le j k && int_le k j
 
--- a comparison of whole numbers
-abbrev pub Compares : (ℤ → ℤ → Bool) → ℤ → ℤ → Made → Type 0
-Compares test j k made = made ≡ Gives (Truth (test j k))
+-- what a sign makes of two whole numbers: a comparison, or their bits as those of signed 64-bit numbers
+abbrev pub WholesMake : BinOp → ℤ → ℤ → Made → Type 0
+WholesMake Less j k made = made ≡ Gives (Truth (int_lt j k))
+WholesMake LessEqual j k made = made ≡ Gives (Truth (int_le j k))
+WholesMake Greater j k made = made ≡ Gives (Truth (int_lt k j))
+WholesMake GreaterEqual j k made = made ≡ Gives (Truth (int_le k j))
+WholesMake Equal j k made = made ≡ Gives (Truth (int_equal j k))
+WholesMake NotEqual j k made = made ≡ Gives (Truth (not (int_equal j k)))
+WholesMake BitAnd j k made = MakesWhole (int_bit_and w64 j k) made
+WholesMake BitXor j k made = MakesWhole (int_bit_xor w64 j k) made
+WholesMake BitOr j k made = MakesWhole (int_bit_or w64 j k) made
+WholesMake op j k made = made ≡ Nothing
 
 -- whether two truth values are alike
 abbrev pub alike : Bool → Bool → Bool
 alike true b = b
 alike false b = not b
 
--- an operation on truth values
-abbrev pub OfTruths : (Bool → Bool → Bool) → Option ConstVal → Option ConstVal → Made → Type 0
-OfTruths op (Some (Truth a)) (Some (Truth b)) made = made ≡ Gives (Truth (op a b))
-OfTruths op left right made = made ≡ Nothing
+-- what a sign makes of two truth values
+abbrev pub truths_made : BinOp → Bool → Bool → Made
+truths_made Equal a b = Gives (Truth (alike a b))
+truths_made NotEqual a b = Gives (Truth (not (alike a b)))
+truths_made And a b = Gives (Truth (a && b))
+truths_made Or a b = Gives (Truth (a || b))
+truths_made op a b = Nothing
 
--- one on truth values or on whole numbers
-abbrev pub OfAlike : (Bool → Bool → Bool) → (ℤ → ℤ → Bool) → Option ConstVal → Option ConstVal → Made → Type 0
-OfAlike op test (Some (Truth a)) (Some (Truth b)) made = made ≡ Gives (Truth (op a b))
-OfAlike op test left right made = OfWholes (Compares test) left right made
+-- a comparison, a sign on bits or a sign on truth values
+abbrev pub AlikeMakes : BinOp → Option ConstVal → Option ConstVal → Made → Type 0
+AlikeMakes op (Some (Truth a)) (Some (Truth b)) made = made ≡ truths_made op a b
+AlikeMakes op left right made = OfWholes (WholesMake op) left right made
 
 -- ---- quotients, remainders, shifts and powers, which may be refused whatever the left operand is
 
@@ -227,14 +239,4 @@ PairMakes Add left right made = OfNumbers (ByResult SumIs) (value_of left) (valu
 PairMakes Sub left right made = OfNumbers (ByResult DifferenceIs) (value_of left) (value_of right) made
 PairMakes ShiftLeft left right made = ShiftMakes ShiftsUp (value_of left) (value_of right) made
 PairMakes ShiftRight left right made = ShiftMakes ShiftsDown (value_of left) (value_of right) made
-PairMakes Less left right made = OfWholes (Compares int_lt) (value_of left) (value_of right) made
-PairMakes LessEqual left right made = OfWholes (Compares int_le) (value_of left) (value_of right) made
-PairMakes Greater left right made = OfWholes (Compares (λ j k. int_lt k j)) (value_of left) (value_of right) made
-PairMakes GreaterEqual left right made = OfWholes (Compares (λ j k. int_le k j)) (value_of left) (value_of right) made
-PairMakes Equal left right made = OfAlike alike int_equal (value_of left) (value_of right) made
-PairMakes NotEqual left right made = OfAlike (λ a b. not (alike a b)) (λ j k. not (int_equal j k)) (value_of left) (value_of right) made
-PairMakes BitAnd left right made = OfWholes (λ j k. MakesWhole (int_bit_and w64 j k)) (value_of left) (value_of right) made
-PairMakes BitXor left right made = OfWholes (λ j k. MakesWhole (int_bit_xor w64 j k)) (value_of left) (value_of right) made
-PairMakes BitOr left right made = OfWholes (λ j k. MakesWhole (int_bit_or w64 j k)) (value_of left) (value_of right) made
-PairMakes And left right made = OfTruths (λ a b. a && b) (value_of left) (value_of right) made
-PairMakes Or left right made = OfTruths (λ a b. a || b) (value_of left) (value_of right) made
+PairMakes op left right made = AlikeMakes op (value_of left) (value_of right) made

@@ -1,6 +1,6 @@
 //! A plain and slow program of what constant expressions come to, with which `fold` agrees.
 
-use crate::tests::{BETWEEN, answer, known, number_text};
+use crate::tests::{answer, known, number_text};
 use Value::{Digits, Number, Truth};
 use qs_tree::BinOp::{
     Add, And, BitAnd, BitOr, BitXor, Div, Equal, Greater, GreaterEqual, Less, LessEqual, Mul,
@@ -308,6 +308,14 @@ const NAMES: [&str; 12] = [
     "pi", "π", "tau", "τ", "n", "n", "half", "mixed", "yes", "no", "digits", "z",
 ];
 
+pub static OPERATORS: [[BinOp; 4]; 5] = [
+    [Power, Mul, Div, Rem],
+    [Add, Sub, ShiftLeft, ShiftRight],
+    [Less, LessEqual, Greater, GreaterEqual],
+    [Equal, NotEqual, BitAnd, BitXor],
+    [BitOr, And, Or, Power],
+];
+
 /// Expressions by chance, from a linear congruence.
 #[derive(Drop)]
 struct Chance {
@@ -361,7 +369,7 @@ impl Chance {
         if truths {
             [And, Or, Equal, NotEqual][chosen % 4]
         } else {
-            BETWEEN[chosen % BETWEEN.len()].1
+            OPERATORS[chosen / 4 % 5][chosen % 4]
         }
     }
 
@@ -391,25 +399,26 @@ impl Chance {
     }
 }
 
-/// Whether the loosest sign is `!`, `&&` or `||`.
-fn is_logical(e: &Expr) -> bool {
+/// The place among `!`, `&&` and `||` of an expression's loosest sign.
+fn logical(e: &Expr) -> Option<usize> {
     match &e.kind {
-        ExprKind::Unary(op, _) => *op == UnOp::Not,
-        ExprKind::Binary(_, op, _) => *op == And || *op == Or,
-        _ => false,
+        ExprKind::Unary(UnOp::Not, _) => Some(0),
+        ExprKind::Binary(_, And, _) => Some(1),
+        ExprKind::Binary(_, Or, _) => Some(2),
+        _ => None,
     }
 }
 
 /// `fold` and the slow program agree on some thousand expressions, of which enough have a value, a
-/// refusal and neither, and enough are truth values by `!`, `&&` and `||`.
+/// refusal and neither, and enough have a value by each of `!`, `&&` and `||`.
 #[test]
 fn agrees(rt: HostRuntime) -> Result<(), Fail> {
     let alloc = rt.alloc();
     let consts = known(alloc)?;
     let mut chance = Chance { alloc, state: 1 };
-    let (mut values, mut refusals, mut neither, mut truths) = (0u32, 0u32, 0u32, 0u32);
+    let (mut values, mut refusals, mut neither, mut truths) = (0u32, 0u32, 0u32, [0u32; 3]);
     for i in 0..12_000u32 {
-        let e = chance.built(i % 4 == 0)?;
+        let e = chance.built(i % 3 == 0)?;
         let Outcome { value, fault, .. } = slow(e.get());
         let want = match (value, fault) {
             (Some(Number(a, b)), _) => number_text(alloc, [a.0, a.1, b.0, b.1])?,
@@ -423,8 +432,16 @@ fn agrees(rt: HostRuntime) -> Result<(), Fail> {
         values = values.saturating_add(value.is_some() as u32);
         refusals = refusals.saturating_add(fault.is_some() as u32);
         neither = neither.saturating_add((value.is_none() && fault.is_none()) as u32);
-        truths = truths.saturating_add((value.is_some() && is_logical(e.get())) as u32);
+        if let (Some(_), Some(at)) = (value, logical(e.get())) {
+            if let Some(count) = truths.get_mut(at) {
+                *count = count.saturating_add(1);
+            }
+        }
     }
-    assert!(rt; values > 4_000 && refusals > 1_500 && neither > 4_000 && truths > 500);
+    assert!(rt;
+        values > 4_000 && refusals > 1_500 && neither > 5_000,
+        "{values} {refusals} {neither}"
+    );
+    assert!(rt; truths.iter().all(|count| *count > 200), "{truths:?}");
     Ok(())
 }

@@ -81,7 +81,7 @@ impl Folded {
         ensures { result ≡ is_at_run_time self.now }
     {
         match self.fault() {
-            Some(fault) => fault.cause.is_unknown_name(),
+            Some(fault) => fault.cause == Cause::NotConst,
             None => false,
         }
     }

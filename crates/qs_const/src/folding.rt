@@ -64,13 +64,15 @@ pub fn folded(alloc: Global, e: &Expr, consts: &Consts) -> Result<Folded, AllocE
     }
 }
 
-/// The value of a constant expression, whose names have these constants. It has to have a value or a
-/// refusal.
+/// The value of a constant expression, whose names have these constants.
+///
+/// The expression has to come to a value or to a refusal. One that no rule gives a value and none of
+/// the codes refuses, as `1 && 1` or a call, isn't for this call.
 ///
 /// # Errors
 /// The first refusal in the order of the text, at the first token of the part that is refused: of
-/// two at one place that with the lower code. `NotConst` stands at a name without a constant.
-/// `Memory` for want of memory.
+/// two at one place that with the lower code. `NotConst` stands at a name without a constant, and
+/// `BadPower` at a power of one. `Memory` for want of memory.
 pub fn fold(alloc: Global, e: &Expr, consts: &Consts) -> Result<ConstVal, ConstRefusal>
     requires { IsFoldable e.now consts.now }
     ensures { FoldIs e.now consts.now result }

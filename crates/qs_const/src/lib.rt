@@ -4,8 +4,7 @@
 
 #[cfg(test)]
 mod agreement;
-mod bits;
-mod compare;
+mod alike;
 mod folded;
 mod folding;
 mod laws;
@@ -20,7 +19,6 @@ mod signs;
 mod sums;
 #[cfg(test)]
 mod tests;
-mod truths;
 mod whole;
 
 pub use folding::fold;

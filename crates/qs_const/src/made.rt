@@ -15,7 +15,6 @@ pub enum Cause {
 
 impl Cause {
     ghost use Rattle.qs_const.specs.Codes.{code_of};
-    ghost use Rattle.qs_const.specs.Outcomes.{is_unknown_name};
 
     /// The refusal's number.
     pub fn code(self) -> u16
@@ -28,16 +27,6 @@ impl Cause {
             Cause::ByPi => 124,
             Cause::BadPower => 125,
             Cause::NotConst => 126,
-        }
-    }
-
-    /// Whether it is a name without a constant.
-    pub fn is_unknown_name(self) -> bool
-        ensures { result ≡ is_unknown_name self }
-    {
-        match self {
-            Cause::NotConst => true,
-            _ => false,
         }
     }
 }

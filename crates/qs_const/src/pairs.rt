@@ -1,14 +1,12 @@
 ghost use Rattle.qs_const.specs.Operations.{PairMakes};
 
-use crate::bits::{bit_and_made, bit_or_made, bit_xor_made};
-use crate::compare::{equal_made, less_equal_made, less_made, not_equal_made};
+use crate::alike::alike_made;
 use crate::folded::Folded;
 use crate::made::Made;
 use crate::powers::power_made;
 use crate::quotients::{quotient_made, remainder_made};
 use crate::shifts::{shift_left_made, shift_right_made};
 use crate::sums::{difference_made, product_made, sum_made};
-use crate::truths::{and_made, or_made};
 use qs_tree::BinOp;
 
 /// What a sign between two operands makes, where each of them may have no value.
@@ -25,16 +23,6 @@ pub fn pair_made(op: BinOp, left: &Folded, right: &Folded) -> Made
         BinOp::Sub => difference_made(x, y),
         BinOp::ShiftLeft => shift_left_made(x, y),
         BinOp::ShiftRight => shift_right_made(x, y),
-        BinOp::Less => less_made(x, y),
-        BinOp::LessEqual => less_equal_made(x, y),
-        BinOp::Greater => less_made(y, x),
-        BinOp::GreaterEqual => less_equal_made(y, x),
-        BinOp::Equal => equal_made(x, y),
-        BinOp::NotEqual => not_equal_made(x, y),
-        BinOp::BitAnd => bit_and_made(x, y),
-        BinOp::BitXor => bit_xor_made(x, y),
-        BinOp::BitOr => bit_or_made(x, y),
-        BinOp::And => and_made(x, y),
-        BinOp::Or => or_made(x, y),
+        _ => alike_made(op, x, y),
     }
 }

@@ -1,159 +1,121 @@
-use crate::folded::{Absent, Folded};
+use crate::agreement::OPERATORS;
+use crate::folded::Folded;
 use crate::folding::folded;
 use crate::{ConstRefusal, fold};
 use qs_lexer::{Token, TokenKind, lex};
-use qs_tree::{BinOp, Const, ConstVal, Consts, Expr, ExprKind, UnOp};
+use qs_tree::{BinOp, Const, ConstVal, Consts, Expr, ExprKind, TypeExpr, TypeWord, UnOp};
 use qs_values::{Boxed, Frac, List, Name, Num, Span};
 use std::alloc::Global;
 use std::test::Fail;
 
-/// What stands open while a text is read: a bracket, an index, or a sign whose operand comes.
-#[derive(Debug, Drop)]
-enum Open {
-    Bracket(Span),
-    Index(Span, Name),
-    Before(Span, UnOp),
-    Between(BinOp, u8),
-}
-
-/// The signs between two operands, and how tightly each binds; one before its operand has 11.
-pub static BETWEEN: [(&str, BinOp, u8); 19] = [
-    ("**", BinOp::Power, 12),
-    ("*", BinOp::Mul, 10),
-    ("/", BinOp::Div, 10),
-    ("%", BinOp::Rem, 10),
-    ("+", BinOp::Add, 9),
-    ("-", BinOp::Sub, 9),
-    ("<<", BinOp::ShiftLeft, 8),
-    (">>", BinOp::ShiftRight, 8),
-    ("<", BinOp::Less, 7),
-    ("<=", BinOp::LessEqual, 7),
-    (">", BinOp::Greater, 7),
-    (">=", BinOp::GreaterEqual, 7),
-    ("==", BinOp::Equal, 6),
-    ("!=", BinOp::NotEqual, 6),
-    ("&", BinOp::BitAnd, 5),
-    ("^", BinOp::BitXor, 4),
-    ("|", BinOp::BitOr, 3),
-    ("&&", BinOp::And, 2),
-    ("||", BinOp::Or, 1),
+/// The signs between two operands in the order of `OPERATORS`.
+static SIGNS: [&str; 19] = [
+    "**", "*", "/", "%", "+", "-", "<<", ">>", "<", "<=", ">", ">=", "==", "!=", "&", "^", "|",
+    "&&", "||",
 ];
+
+/// How tightly each of them binds; a sign before its operand has 11.
+static LEVELS: [u8; 19] = [12, 10, 10, 10, 9, 9, 8, 8, 7, 7, 7, 7, 6, 6, 5, 4, 3, 2, 1];
 
 /// A sign between two operands, and how tightly it binds.
 fn between(text: &str) -> Option<(BinOp, u8)> {
-    for (sign, op, level) in &BETWEEN {
-        if *sign == text {
-            return Some((*op, *level));
-        }
-    }
-    None
+    let at = SIGNS.iter().position(|sign| *sign == text)?;
+    let op = OPERATORS.get(at / 4)?.get(at % 4)?;
+    Some((*op, *LEVELS.get(at)?))
 }
 
-impl Open {
-    fn level(&self) -> u8 {
-        match self {
-            Open::Bracket(_) | Open::Index(_, _) => 0,
-            Open::Before(_, _) => 11,
-            Open::Between(_, level) => *level,
-        }
-    }
-}
-
-/// A text that is read: the operands so far, and what is open.
+/// The tokens of a text that are still to be read.
 #[derive(Drop)]
-struct Reader {
+struct Reader<'a> {
     alloc: Global,
-    operands: Vec<Expr>,
-    open: Vec<Open>,
+    tokens: &'a [Token],
 }
 
-impl Reader {
-    /// Closes what was opened last.
-    fn close(&mut self) -> Result<(), Fail> {
-        let open = self.open.pop().ok_or("nothing is open")?;
-        let last = self.operands.pop().ok_or("no operand")?;
-        let last = Boxed::new(self.alloc, last)?;
-        let (span, kind) = match open {
-            Open::Bracket(span) => (span, ExprKind::Group(last)),
-            Open::Index(span, name) => (span, ExprKind::Index(name, last)),
-            Open::Before(span, op) => (span, ExprKind::Unary(op, last)),
-            Open::Between(op, _) => {
-                let first = self.operands.pop().ok_or("no left operand")?;
-                let span = first.span;
-                let first = Boxed::new(self.alloc, first)?;
-                (span, ExprKind::Binary(first, op, last))
-            }
-        };
-        self.operands.push(Expr { span, kind })?;
-        Ok(())
+impl<'a> Reader<'a> {
+    fn take(&mut self) -> Result<&'a Token, Fail> {
+        let (first, rest) = self.tokens.split_first().ok_or("the text ends")?;
+        self.tokens = rest;
+        Ok(first)
     }
 
-    /// Closes all that binds at this level or tighter.
-    fn close_from(&mut self, least: u8) -> Result<(), Fail> {
-        for _ in 0..self.open.len() {
-            match self.open.last() {
-                Some(open) if open.level() >= least => {}
-                _ => return Ok(()),
-            }
-            self.close()?;
+    /// The text of the next token.
+    fn next(&self) -> &'a str {
+        match self.tokens.first() {
+            Some(token) => token.text.as_str(),
+            None => "",
         }
-        Ok(())
     }
 
-    /// A token where an operand begins; whether another one is still wanted.
-    fn begin(&mut self, token: &Token) -> Result<bool, Fail> {
-        let text = token.text.as_str();
-        let open = match text {
-            "!" => Some(Open::Before(token.span, UnOp::Not)),
-            "-" => Some(Open::Before(token.span, UnOp::Neg)),
-            "~" => Some(Open::Before(token.span, UnOp::Invert)),
-            "(" => Some(Open::Bracket(token.span)),
-            _ => None,
-        };
-        if let Some(open) = open {
-            self.open.push(open)?;
-            return Ok(true);
+    /// An expression whose signs bind at a level or tighter.
+    #[cycle(reading)]
+    fn expression(&mut self, least: u8, depth: u8) -> Result<Expr, Fail> {
+        let depth = depth.checked_sub(1).ok_or("too deep")?;
+        let mut left = self.operand(depth)?;
+        for _ in 0..self.tokens.len() {
+            let (op, level) = match between(self.next()) {
+                Some((op, level)) if level >= least => (op, level),
+                _ => return Ok(left),
+            };
+            self.take()?;
+            // a power takes another one as its right operand
+            let above = level.saturating_add((op != BinOp::Power) as u8);
+            let right = Boxed::new(self.alloc, self.expression(above, depth)?)?;
+            let span = left.span;
+            let kind = ExprKind::Binary(Boxed::new(self.alloc, left)?, op, right);
+            left = Expr { span, kind };
         }
-        let copy = Name::copy_of(self.alloc, text)?;
-        let kind = match token.kind {
+        Ok(left)
+    }
+
+    /// A value, a name, or a sign or a bracket with its expression.
+    #[cycle(reading)]
+    fn operand(&mut self, depth: u8) -> Result<Expr, Fail> {
+        let depth = depth.checked_sub(1).ok_or("too deep")?;
+        let Token { span, text, kind } = self.take()?;
+        let text = text.as_str();
+        let name = Name::copy_of(self.alloc, text)?;
+        let kind = match *kind {
             TokenKind::Whole(value) => ExprKind::Whole(value),
             TokenKind::Decimal(value) => ExprKind::Decimal(value),
-            TokenKind::Text => ExprKind::Text(copy),
-            TokenKind::Word if text == "true" => ExprKind::Truth(true),
-            TokenKind::Word if text == "false" => ExprKind::Truth(false),
-            _ => ExprKind::Name(copy),
+            TokenKind::Time(value, unit) => ExprKind::Time(value, unit),
+            TokenKind::Physical(number) => ExprKind::Physical(number),
+            TokenKind::Text => ExprKind::Text(name),
+            TokenKind::Word if text == "true" || text == "false" => ExprKind::Truth(text == "true"),
+            TokenKind::Word => self.named(name, depth)?,
+            TokenKind::Sign => {
+                let least = if text == "(" { 0 } else { 11 };
+                let inner = Boxed::new(self.alloc, self.expression(least, depth)?)?;
+                match text {
+                    "!" => ExprKind::Unary(UnOp::Not, inner),
+                    "-" => ExprKind::Unary(UnOp::Neg, inner),
+                    "~" => ExprKind::Unary(UnOp::Invert, inner),
+                    _ => self.take().map(|_| ExprKind::Group(inner))?,
+                }
+            }
         };
-        let span = token.span;
-        self.operands.push(Expr { span, kind })?;
-        Ok(false)
+        Ok(Expr { span: *span, kind })
     }
 
-    /// A token behind an operand; whether another operand is wanted.
-    fn go_on(&mut self, token: &Token) -> Result<bool, Fail> {
-        let text = token.text.as_str();
-        if text == "[" {
-            let Expr { span, kind } = self.operands.pop().ok_or("no operand")?;
-            let ExprKind::Name(name) = kind else {
-                return Err("an index behind no name".into());
-            };
-            self.open.push(Open::Index(span, name))?;
-            return Ok(true);
+    /// A name, with its index or its argument where brackets stand behind it; `int` makes a cast.
+    #[cycle(reading)]
+    fn named(&mut self, name: Name, depth: u8) -> Result<ExprKind, Fail> {
+        let depth = depth.checked_sub(1).ok_or("too deep")?;
+        let open = self.next();
+        if open != "[" && open != "(" {
+            return Ok(ExprKind::Name(name));
         }
-        match between(text) {
-            Some((op, level)) => {
-                // a power takes another one as its right operand
-                if op != BinOp::Power {
-                    self.close_from(level)?;
-                }
-                self.open.push(Open::Between(op, level))?;
+        self.take()?;
+        let inner = self.expression(0, depth)?;
+        self.take()?;
+        let (span, word, width) = (inner.span, TypeWord::Int, None);
+        Ok(match (open, name.as_str()) {
+            ("[", _) => ExprKind::Index(name, Boxed::new(self.alloc, inner)?),
+            (_, "int") => {
+                let operand = Boxed::new(self.alloc, inner)?;
+                ExprKind::Cast(TypeExpr { span, word, width }, operand)
             }
-            None => {
-                self.close_from(1)?;
-                self.close()?;
-                return Ok(false);
-            }
-        }
-        Ok(true)
+            _ => ExprKind::Call(name, List::from_vec(vec![in self.alloc; inner]?)),
+        })
     }
 }
 
@@ -164,26 +126,13 @@ pub fn read(alloc: Global, text: &str) -> Result<Expr, Fail> {
         return Err("the text is too long".into());
     }
     let tokens = lex(alloc, bytes)?;
-    let mut reader = Reader {
-        alloc,
-        operands: Vec::new(alloc),
-        open: Vec::new(alloc),
-    };
-    let mut wanted = true;
-    for token in tokens.as_slice() {
-        wanted = if wanted {
-            reader.begin(token)?
-        } else {
-            reader.go_on(token)?
-        };
+    let tokens = tokens.as_slice();
+    let mut reader = Reader { alloc, tokens };
+    let e = reader.expression(0, 100)?;
+    if !reader.tokens.is_empty() {
+        return Err("the text goes on".into());
     }
-    reader.close_from(1)?;
-    let Reader { operands, open, .. } = reader;
-    let mut operands = operands;
-    match operands.pop() {
-        Some(e) if operands.is_empty() && open.is_empty() => Ok(e),
-        _ => Err("the text is no expression".into()),
-    }
+    Ok(e)
 }
 
 // ---- a table
@@ -279,7 +228,7 @@ n => 5/1; n + 2 => 7/1; half * 4 => 2/1; mixed => 3/1 + 2/1 pi; mixed - 3 => 0/1
 (z) => 126 1:2; -z => 126 1:2; !z => 126 1:2; z + 0 => 126 1:1; 0 + z => 126 1:5
 z && true => 126 1:1; z + y => 126 1:1; z * pi => 126 1:1; z/2 => 126 1:1; z/0 => 123 1:1
 z/pi => 126 1:1; z/(1 + pi) => 124 1:1; 1/z => 126 1:3; z % 0 => 123 1:1; z % pi => 124 1:1
-z % 3 => 126 1:1; z**2 => 125 1:1; z**64 => 125 1:1; z**true => 125 1:1; 2**z => 125 1:1
+z % 3 => 126 1:1; z**64 => 125 1:1; z**true => 125 1:1
 z << 2 => 126 1:1; z << 64 => 121 1:1; z >> -1 => 121 1:1; 1 << z => 126 1:6; z[1] => 126 1:1
 z[1/0] => 126 1:1; z[1]/0 => 123 1:1
 # the first of two refusals
@@ -287,6 +236,34 @@ z[1/0] => 126 1:1; z[1]/0 => 123 1:1
 (pi*pi)/0 => 123 1:1; pi*pi/0 => 122 1:1; 1/0 % pi => 123 1:1; (2**64) + 1/0 => 125 1:2
 2**60/0 => 121 1:1; 2**64 << 64 => 121 1:1; 0 * (1/0) => 123 1:6; false && 1/0 == 1 => 123 1:10
 (1/0)**64 => 125 1:1
+   pi*pi => 122 1:4
+# powers at run time, and exponents that are truth values by their signs
+z**2 => 125 1:1; 2**z => 125 1:1; z**z => 125 1:1; (z)**2 => 125 1:1; 2**(z) => 125 1:1
+z[1]**2 => 125 1:1; 2**z[1] => 125 1:1; -z**2 => 125 1:2; 2**-z => 125 1:1; 1 + z**2 => 125 1:5
+true**z => 125 1:1; "01"**z => 125 1:1; (-true)**z => 125 1:1; z**(-true) => 125 1:1
+(z + 1/0)**2 => 125 1:1; (1/0 + z)**2 => 123 1:2; 2**(z + 1/0) => 125 1:1; 2**(1/0 + z) => 123 1:5
+z**(1/0) => 125 1:1; (1/0)**z => 125 1:1; (pi*pi)**2 => 122 1:2; 2**(pi*pi) => 122 1:5
+2**(1/0 == 1) => 125 1:1; 2**(1/0) => 123 1:5; 2**(1/0 < 1) => 125 1:1; 2**!(1/0) => 125 1:1
+2**((1/0 || true)) => 125 1:1; 2**-(1/0 == 1) => 123 1:6; 2**(1 && 1) => 125 1:1
+(1/0 == 1)**2 => 123 1:2; (1/0 == 1)**64 => 125 1:1
+# truth values by their signs over pi
+!z/pi => 124 1:1; (!z)/pi => 124 1:1; ((z < 1))/pi => 124 1:1; (z >= 1)/tau => 124 1:1
+(z != 1)/(2*pi) => 124 1:1; (1/0 || z)/pi => 124 1:1; (1 && 1)/pi => 124 1:1; !z/2 => 126 1:2
+!z/0 => 123 1:1; !z/(pi - pi) => 123 1:1; -z/pi => 126 1:2; ~z/pi => 126 1:2; (z + 1)/pi => 126 1:2
+z[1]/pi => 126 1:1; -!z/pi => 126 1:3; pi/!z => 126 1:5
+# counts that aren't whole
+1 << 100.5 => 121 1:1; 1 << -0.5 => 121 1:1; 1 >> 63.5 => 121 1:1; 1 >> -1/3 => 121 1:1
+z << 63.5 => 121 1:1; true << 64.5 => 121 1:1; pi >> 100.5 => 121 1:1; z << 62.5 => 126 1:1
+z << pi => 126 1:1; 1/0 << 100*pi => 123 1:1
+# without a rule
+pi > 3 => no rule; 0.5 == 0.5 => no rule; 1 && 1 => no rule; "01" == "01" => no rule
+true**2 => no rule; "01"**2 => no rule; 5 % 0.5 => no rule; pi % 2 => no rule; 1 << 0.5 => no rule
+1 << 62.5 => no rule; 1 << pi => no rule; 1 >> 100 + pi => no rule; true << 1 => no rule
+~0.5 => no rule; 1 + true => no rule; -true => no rule; !1 => no rule; true == 1 => no rule
+"" => no rule; "1__0" => no rule; "012" => no rule; n[0] => no rule; n[0]**2 => no rule
+2**n[0] => no rule; n[0]/pi => no rule; pi[0] => no rule; 10ns => no rule; 10ns + 10ns => no rule
+$0 => no rule; f(1) => no rule; int(1) => no rule; int(1)**2 => no rule; 2**f(1) => no rule
+int(1/0) => no rule; f(z) => no rule
 "#;
 
 /// The rows, and two whose texts have more than one line.
@@ -312,22 +289,34 @@ pub fn number_text(alloc: Global, [a, b, c, d]: [i128; 4]) -> Result<String, Fai
     })
 }
 
-/// What `fold` answers: a value's parts, or a refusal; and where no rule types the expression, that.
-pub fn answer(alloc: Global, e: &Expr, consts: &Consts) -> Result<String, Fail> {
+/// What `fold` answers, or `None` where no rule types the expression.
+fn told(
+    alloc: Global,
+    e: &Expr,
+    consts: &Consts,
+) -> Result<Option<Result<ConstVal, ConstRefusal>>, Fail> {
     match folded(alloc, e, consts)? {
-        Folded::Absent(Absent { fault: None, .. }) => return Ok(format!(in alloc; "no rule")?),
-        _ => {}
+        Folded::Value(_) => Ok(Some(fold(alloc, e, consts))),
+        Folded::Absent(absent) => match absent.fault {
+            Some(_) => Ok(Some(fold(alloc, e, consts))),
+            None => Ok(None),
+        },
     }
-    Ok(match fold(alloc, e, consts) {
-        Ok(ConstVal::Number(Num { plain, pi })) => {
+}
+
+/// A value's parts, or a refusal, or that no rule types the expression.
+pub fn answer(alloc: Global, e: &Expr, consts: &Consts) -> Result<String, Fail> {
+    Ok(match told(alloc, e, consts)? {
+        Some(Ok(ConstVal::Number(Num { plain, pi }))) => {
             number_text(alloc, [plain.num(), plain.den(), pi.num(), pi.den()])?
         }
-        Ok(ConstVal::Truth(value)) => format!(in alloc; "{value}")?,
-        Ok(ConstVal::Bits(digits)) => format!(in alloc; "{}", digits.as_str())?,
-        Err(refusal) => {
+        Some(Ok(ConstVal::Truth(value))) => format!(in alloc; "{value}")?,
+        Some(Ok(ConstVal::Bits(digits))) => format!(in alloc; "{}", digits.as_str())?,
+        Some(Err(refusal)) => {
             let Span { line, col } = refusal.span().ok_or("memory")?;
             format!(in alloc; "{} {line}:{col}", refusal.code())?
         }
+        None => format!(in alloc; "no rule")?,
     })
 }
 
@@ -336,11 +325,14 @@ fn table(rt: HostRuntime) -> Result<(), Fail> {
     let alloc = rt.alloc();
     let consts = known(alloc)?;
     let rows = rows(alloc)?;
-    assert_eq!(rt; rows.len(), 213);
+    assert_eq!(rt; rows.len(), 304);
     for (text, want) in rows.as_slice() {
         let e = read(alloc, text)?;
         let told = answer(alloc, &e, &consts)?;
         assert_eq!(rt; told.as_str(), *want, "{text}");
     }
+    let told = told(alloc, &read(alloc, "   pi*pi")?, &consts)?;
+    let span = Span { line: 1, col: 4 };
+    assert!(rt; matches!(told, Some(Err(ConstRefusal::PiTimesPi { span: at })) if at == span));
     Ok(())
 }

@@ -5,7 +5,9 @@
 mod constant;
 mod expr;
 mod operator;
+mod text;
 
 pub use constant::{Const, ConstVal, Consts};
 pub use expr::{Expr, ExprKind, TypeExpr, TypeWord};
 pub use operator::{BinOp, UnOp};
+pub use text::bits_of;
