@@ -229,7 +229,7 @@ PowerMakes left (Absent a) made = made ≡ refused_power (is_at_run_time left ||
 
 -- ---- all of them
 
--- what a sign between two operands makes, where each of them may have no value
+-- what a sign between two operands makes, where each of them may have no value; the last row is of comparisons, bits and truth values
 abbrev pub PairMakes : BinOp → Folded → Folded → Made → Type 0
 PairMakes Power left right made = PowerMakes left right made
 PairMakes Mul left right made = OfNumbers (ByResult ProductIs) (value_of left) (value_of right) made

@@ -308,6 +308,7 @@ const NAMES: [&str; 12] = [
     "pi", "π", "tau", "τ", "n", "n", "half", "mixed", "yes", "no", "digits", "z",
 ];
 
+/// The signs between two operands from the tightest to the loosest, and the first once more.
 pub static OPERATORS: [[BinOp; 4]; 5] = [
     [Power, Mul, Div, Rem],
     [Add, Sub, ShiftLeft, ShiftRight],

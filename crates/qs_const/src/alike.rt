@@ -20,8 +20,8 @@ pub fn alike_made(op: BinOp, left: Option<&ConstVal>, right: Option<&ConstVal>) 
     }
 }
 
-/// What a sign makes of two whole numbers. Bits are those of signed 64-bit numbers, and a result that
-/// reaches 10^18 in size is `TooWide`.
+/// What a sign makes of two whole numbers. Bits are those of signed 64-bit numbers, and a result
+/// that reaches 10^18 in size is `TooWide`.
 fn wholes_made(op: BinOp, j: i64, k: i64) -> Made
     ensures { WholesMake op j k result }
 {

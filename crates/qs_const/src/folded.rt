@@ -14,8 +14,8 @@ pub struct Fault {
     pub cause: Cause,
 }
 
-/// What is known of a part without a value: the first refusal in it, where there is one, and whether
-/// its sign tells that it is a truth value.
+/// What is known of a part without a value: the first refusal in it, where there is one, and
+/// whether its sign tells that it is a truth value.
 #[derive(Clone, Copy, Debug, PartialEq, Eq)]
 pub struct Absent {
     pub fault: Option<Fault>,

@@ -66,8 +66,8 @@ pub fn folded(alloc: Global, e: &Expr, consts: &Consts) -> Result<Folded, AllocE
 
 /// The value of a constant expression, whose names have these constants.
 ///
-/// The expression has to come to a value or to a refusal. One that no rule gives a value and none of
-/// the codes refuses, as `1 && 1` or a call, isn't for this call.
+/// The expression has to come to a value or to a refusal: one that no rule gives a value and none
+/// of the codes refuses, as `1 && 1` or a call, isn't for this function.
 ///
 /// # Errors
 /// The first refusal in the order of the text, at the first token of the part that is refused: of

@@ -9,8 +9,8 @@ use std::alloc::AllocError;
 /// Why a constant expression has no value, and where: the first refusal in the order of the text.
 #[derive(Clone, Copy, Debug, PartialEq, Eq)]
 pub enum ConstRefusal {
-    /// A part of a number reaches 10^18 in lowest terms, a result doesn't fit, or a shift's count is
-    /// below 0 or above 63.
+    /// A part of a number reaches 10^18 in lowest terms, a result doesn't fit, or a shift's count
+    /// is below 0 or above 63.
     TooWide { span: Span },
     /// A product of two numbers with pi.
     PiTimesPi { span: Span },
@@ -18,7 +18,8 @@ pub enum ConstRefusal {
     ByZero { span: Span },
     /// A divisor with pi, but for a quotient of two multiples of pi alone.
     ByPi { span: Span },
-    /// An exponent that isn't a whole constant from 0 to 63, or a power of a name without a constant.
+    /// An exponent that isn't a whole constant from 0 to 63, or a power at run time: one with an
+    /// operand that is refused first for a name without a constant.
     BadPower { span: Span },
     /// A name without a constant.
     NotConst { span: Span },

@@ -17,8 +17,8 @@ pub fn shift_left_made(left: Option<&ConstVal>, right: Option<&ConstVal>) -> Mad
     }
 }
 
-/// A whole number shifted to the right, rounded down. A count without pi that is below 0 or above 63
-/// is `TooWide`, whatever is shifted; other operands make nothing.
+/// A whole number shifted to the right, rounded down. A count without pi that is below 0 or above
+/// 63 is `TooWide`, whatever is shifted; other operands make nothing.
 pub fn shift_right_made(left: Option<&ConstVal>, right: Option<&ConstVal>) -> Made
     ensures { ShiftMakes ShiftsDown (option_copied left.entry) (option_copied right.entry) result }
 {
