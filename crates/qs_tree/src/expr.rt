@@ -10,8 +10,8 @@ pub struct Expr {
     pub kind: ExprKind,
 }
 
-/// What an expression is: one kind for each form of the grammar (OpenQASM 3.0, expressions), with
-/// its parts in their order.
+/// What an expression is: one kind for each form of the grammar (OpenQASM 3.0, expressions) but
+/// `durationof`, which holds statements, with its parts in their order.
 #[cycle(syntax)]
 #[derive(Debug, Drop)]
 pub enum ExprKind {
