@@ -16,7 +16,8 @@ use Rattle.qs_const.specs.declared.folded.Folded.{Folded}
 use Rattle.qs_const.specs.declared.folded.Folded.TheVariants.{Value, Absent}
 use Rattle.qs_const.specs.Outcomes.{value_of}
 use Rattle.qs_const.specs.Operations.{AlikeMakes, ByResult, DividesOther, HasNoQuotient, IsCount, IsExponent, IsNoExponent, IsNothing, IsNotWhole, IsOutside, IsPower, IsWhole, MakesNumber, MakesWhole, MayHaveQuotient, OfNumbers, OfWholes, OnWholes, PairMakes, PowerMakes, QuotientMakes, RaisedIs, RemainderMakes, Remains, ShiftMakes, ShiftedIs, ShiftsDown, ShiftsUp, SignIs, Times, WholesMake, number_made}
-use Rattle.qs_values.proofs.OneNumber.{difference_once, nonzero_den, number_once, one_nonzero, product_once, ratio_once, sum_once}
+use Rattle.qs_values.proofs.NumberLemmas.{nonzero_den}
+use Rattle.qs_values.proofs.OneNumber.{difference_once, number_once, one_nonzero, product_once, ratio_once, sum_once}
 
 -- a relation that at most one thing meets
 abbrev pub Once : (Made → Type 0) → Type 0

@@ -12,10 +12,10 @@ use Rattle.qs_values.specs.Lowest.{IsLowest}
 
 -- ---- products of signed numbers
 
-up-mul : (a b : ℤ) → up (a *ℤ b) ≡ up a * up b + down a * down b
+pub up-mul : (a b : ℤ) → up (a *ℤ b) ≡ up a * up b + down a * down b
 up-mul a b = (product_is a b).0
 
-down-mul : (a b : ℤ) → down (a *ℤ b) ≡ up a * down b + down a * up b
+pub down-mul : (a b : ℤ) → down (a *ℤ b) ≡ up a * down b + down a * up b
 down-mul a b = (product_is a b).1
 
 -- the order of three factors

@@ -1,11 +1,13 @@
 -- Sums and products of the parts of fractions fit 128 bits.
-use Rattle.std.proofs.Common.{◌≡◌, ◌≢◌, ◌<◌, ◌^◌, arith, zero, suc, ℤ, pos, negsuc, ◌<ℤ◌, ◌+ℤ◌, ◌-ℤ◌, ◌*ℤ◌, unsigned_abs, FitsSigned, to_z, of_z, Err, inr}
+use Rattle.std.proofs.Common.{◌≡◌, ◌≢◌, ℕ, ◌*◌, ◌<◌, ◌^◌, ap, sym, ◌∙◌, arith, zero, suc, ℤ, pos, negsuc, ◌<ℤ◌, ◌+ℤ◌, ◌-ℤ◌, ◌*ℤ◌, unsigned_abs, FitsSigned, to_z, of_z, Err, inr}
 use mir.Syntax.{w128}
 use Rattle.std.proofs.lemmas.Nat.{mul-lt}
 use Rattle.std.proofs.lemmas.Int.{ints, fits_signed_from_abs, unsigned_abs-mul, to_z-of_z}
 use Rattle.qs_values.specs.declared.refusal.NumRefusal.{NumRefusal}
 use Rattle.qs_values.specs.declared.refusal.NumRefusal.TheVariants.{TooWide, PiTimesPi, ByZero, ByPi}
+use Rattle.qs_values.specs.declared.number.Frac.{Frac}
 use Rattle.qs_values.specs.Number.{QuotientIs, NumberIs}
+use Rattle.qs_values.proofs.LowestLemmas.{abs_above}
 
 -- a number below 10^37 in size fits
 pub fits_below : (z : ℤ) → unsigned_abs z < 10 ^ 37 → FitsSigned w128 z
@@ -49,10 +51,15 @@ refused_pi an ad bn bd ByZero nonzero h = nonzero h
 refused_pi an ad bn bd PiTimesPi nonzero h = h
 refused_pi an ad bn bd ByPi nonzero h = h
 
--- a product of denominators isn't 0
-pub nonzero_product : (a b : ℤ) → pos 0 <ℤ a → pos 0 <ℤ b → a *ℤ b ≢ pos 0
-nonzero_product (pos zero) b p q = absurd (omega (arith, ints))
-nonzero_product (negsuc a) b p q = absurd (omega (arith, ints))
-nonzero_product (pos (suc a)) (pos zero) p q = absurd (omega (arith, ints))
-nonzero_product (pos (suc a)) (negsuc b) p q = absurd (omega (arith, ints))
-nonzero_product (pos (suc a)) (pos (suc b)) p q = λ e. omega (arith, ints)
+-- a product of what isn't 0 isn't 0
+
+nonzero_of_sizes : (m n : ℕ) → 0 < m → 0 < n → m * n ≢ 0
+nonzero_of_sizes zero n h k = absurd (omega arith)
+nonzero_of_sizes (suc m) zero h k = absurd (omega arith)
+nonzero_of_sizes (suc m) (suc n) h k = λ e. omega (arith, e)
+
+pub nonzero_product : (a b : ℤ) → a ≢ pos 0 → b ≢ pos 0 → a *ℤ b ≢ pos 0
+nonzero_product a b p q e = nonzero_of_sizes (unsigned_abs a) (unsigned_abs b) (abs_above a p) (abs_above b q) (sym (unsigned_abs-mul a b) ∙ ap unsigned_abs e)
+
+pub nonzero_den : (f : Frac) → f.den ≢ pos 0
+nonzero_den f e = omega (arith, ints, f.above, e)

@@ -1,16 +1,16 @@
 -- Numbers are unique: operations on numbers have one answer.
 use Rattle.std.proofs.Common.{◌≡◌, ◌≢◌, ◌⊎◌, ℕ, ◌*◌, ◌+◌, ◌<◌, zero, suc, refl, ap, sym, ◌∙◌, arith, ℤ, pos, negsuc, ◌*ℤ◌, unsigned_abs, inl, inr, Result, Ok, Err}
-use Rattle.std.proofs.Math.Nat.{eq_of_mul-eq-mul_right}
-use Rattle.std.proofs.lemmas.Int.{ints, unsigned_abs-mul}
-use borrow.Author.Differences.{up, down, same_in, product_is}
+use Rattle.std.proofs.lemmas.Int.{ints}
+use borrow.Author.Differences.{same_in}
 use Rattle.qs_values.specs.Lowest.{IsLowest, IsWide}
 use Rattle.qs_values.specs.Number.{DifferenceIs, IsFrac, IsZero, NumberIs, ProductIs, QuotientIs, RatioIs, ScaledIs, SumIs}
 use Rattle.qs_values.specs.declared.number.Frac.{Frac}
 use Rattle.qs_values.specs.declared.number.Num.{Num}
 use Rattle.qs_values.specs.declared.refusal.NumRefusal.{NumRefusal}
 use Rattle.qs_values.specs.declared.refusal.NumRefusal.TheVariants.{TooWide, PiTimesPi, ByZero, ByPi}
-use Rattle.qs_values.proofs.LowestLemmas.{abs_above}
-use Rattle.qs_values.proofs.OneQuotient.{answer_excludes_wide}
+use Rattle.qs_values.proofs.LowestLemmas.{up-mul, down-mul}
+use Rattle.qs_values.proofs.NumberLemmas.{nonzero_product, nonzero_den}
+use Rattle.qs_values.proofs.OneQuotient.{answer_excludes_wide, cancelled}
 use Rattle.qs_values.proofs.FracOnce.{frac_once}
 
 pub same_number : (x y : Num) → x.plain ≡ y.plain → x.pi ≡ y.pi → x ≡ y
@@ -63,17 +63,6 @@ number_once an ad bn bd (Err PiTimesPi) s p q h k = absurd h
 number_once an ad bn bd (Err ByZero) s p q h k = absurd h
 number_once an ad bn bd (Err ByPi) s p q h k = absurd h
 
-nonzero_of_sizes : (m n : ℕ) → 0 < m → 0 < n → m * n ≢ 0
-nonzero_of_sizes zero n h k = absurd (omega arith)
-nonzero_of_sizes (suc m) zero h k = absurd (omega arith)
-nonzero_of_sizes (suc m) (suc n) h k = λ e. omega (arith, e)
-
-pub nonzero_product : (a b : ℤ) → a ≢ pos 0 → b ≢ pos 0 → a *ℤ b ≢ pos 0
-nonzero_product a b p q e = nonzero_of_sizes (unsigned_abs a) (unsigned_abs b) (abs_above a p) (abs_above b q) (sym (unsigned_abs-mul a b) ∙ ap unsigned_abs e)
-
-pub nonzero_den : (f : Frac) → f.den ≢ pos 0
-nonzero_den f e = omega (arith, ints, f.above, e)
-
 dens : (f g : Frac) → f.den *ℤ g.den ≢ pos 0
 dens f g = nonzero_product f.den g.den (nonzero_den f) (nonzero_den g)
 
@@ -88,12 +77,6 @@ scaled_once x f r s = number_once _ _ _ _ r s (dens x.plain f) (dens x.pi f)
 
 -- ---- products, which either factor may scale
 
-up-mul : (a b : ℤ) → up (a *ℤ b) ≡ up a * up b + down a * down b
-up-mul a b = (product_is a b).0
-
-down-mul : (a b : ℤ) → down (a *ℤ b) ≡ up a * down b + down a * up b
-down-mul a b = (product_is a b).1
-
 mul_comm : (a b : ℤ) → a *ℤ b ≡ b *ℤ a
 mul_comm a b = same_in _ _ (simp (up-mul, down-mul) (omega arith))
 
@@ -102,11 +85,6 @@ mul_swap a b c = same_in _ _ (simp (up-mul, down-mul) (omega arith))
 
 zero_mul : (a : ℤ) → pos 0 *ℤ a ≡ pos 0
 zero_mul a = same_in _ _ (simp (up-mul, down-mul) (omega arith))
-
-cancelled : (p r d : ℤ) → d ≢ pos 0 → p *ℤ d ≡ r *ℤ d → p ≡ r
-cancelled p r (pos zero) nonzero e = absurd (nonzero refl)
-cancelled p r (pos (suc k)) nonzero e = same_in p r (eq_of_mul-eq-mul_right (suc k) (omega arith) (up p + down r) (up r + down p) (omega (arith, ints)))
-cancelled p r (negsuc k) nonzero e = same_in p r (eq_of_mul-eq-mul_right (suc k) (omega arith) (up p + down r) (up r + down p) (omega (arith, ints)))
 
 -- one fraction by other parts
 moved : (n d m e p q : ℤ) → d ≢ pos 0 → n *ℤ e ≡ m *ℤ d → IsLowest n d p q → IsLowest m e p q

@@ -13,7 +13,7 @@ use Rattle.qs_values.proofs.LowestLemmas.{abs_above}
 use Rattle.qs_values.proofs.AngleLemmas.{above_is}
 
 -- two numbers have a greatest common divisor
-gcd_exists : (n a b : ℕ) → b ≤ n → (g : ℕ) × IsGcd a b g
+pub gcd_exists : (n a b : ℕ) → b ≤ n → (g : ℕ) × IsGcd a b g
 gcd_exists n a zero h = (a, IsGcd-from_zero a zero refl)
 gcd_exists zero a (suc b) h = absurd (omega arith)
 gcd_exists (suc n) a (suc b) h =
@@ -50,7 +50,7 @@ same_denominator p q r s first second e = dvd_antisymm
     (divides_other r s q second (subst (λ x. s ∣ x) e (dvd-mul_left s p)))
 
 -- a factor that isn't 0 cancels
-cancelled : (p r d : ℤ) → d ≢ pos 0 → p *ℤ d ≡ r *ℤ d → p ≡ r
+pub cancelled : (p r d : ℤ) → d ≢ pos 0 → p *ℤ d ≡ r *ℤ d → p ≡ r
 cancelled p r (pos zero) nonzero e = absurd (nonzero refl)
 cancelled p r (pos (suc k)) nonzero e = same_in p r (eq_of_mul-eq-mul_right (suc k) (omega arith) (up p + down r) (up r + down p) (omega (arith, ints)))
 cancelled p r (negsuc k) nonzero e = same_in p r (eq_of_mul-eq-mul_right (suc k) (omega arith) (up p + down r) (up r + down p) (omega (arith, ints)))

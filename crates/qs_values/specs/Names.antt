@@ -2,7 +2,7 @@
 use Rattle.std.specs.Prelude.{ℕ, List, [], ◌∷◌, Bool, true, false, ◌&&◌, ◌||◌, not, codes, nat_eq, nat_le}
 use Rattle.std.specs.List.{list_any, list_all}
 use Rattle.std.specs.Char.{is_ascii_alphabetic}
-use Rattle.std.specs.Str.{bytes_eq}
+use Rattle.std.specs.Str.{bytes_eq, chars}
 use Rattle.unicode.specs.declared.properties.GeneralCategory.{GeneralCategory}
 use Rattle.unicode.specs.declared.properties.GeneralCategory.TheVariants.{UppercaseLetter, LowercaseLetter, TitlecaseLetter, ModifierLetter, OtherLetter, LetterNumber}
 use Rattle.unicode.specs.GeneralCategory.{general_category}
@@ -45,6 +45,6 @@ reserved =
 abbrev pub is_reserved : List ℕ → Bool
 is_reserved bytes = list_any (bytes_eq bytes) reserved
 
--- whether the characters of a text, with these bytes, are a name
-abbrev pub is_name : List ℕ → List ℕ → Bool
-is_name characters bytes = is_word characters && not (is_reserved bytes)
+-- whether a text, which is its bytes, is a name
+abbrev pub is_name : List ℕ → Bool
+is_name text = is_word (chars text) && not (is_reserved text)

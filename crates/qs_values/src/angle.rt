@@ -3,7 +3,7 @@ ghost use Rattle.qs_values.specs.Angle.{pi_part, units, plain_part, angle_of};
 
 use crate::number::{Frac, Num};
 
-/// A full turn in units of 10^-17 of a radian.
+/// This project's full turn, in units of 10^-17 of a radian.
 const TURN: i128 = 628_318_530_717_958_648;
 
 /// One radian in units of 10^-17 of it.
@@ -26,7 +26,8 @@ fn pi_part(factor: Frac, width: u8) -> i128
     (factor.num() * steps(width) + factor.den()).div_euclid(2 * factor.den())
 }
 
-/// The angle of so many radians in units of 10^-17 of a radian, modulo a full turn.
+/// The angle of so many radians, cut down to units of 10^-17 of a radian, modulo this project's full
+/// turn.
 fn units(radians: Frac) -> i128
     ensures value { result ≡ pos (units radians.num (unsigned_abs radians.den)) }
     ensures bound { units radians.num (unsigned_abs radians.den) < 10 ^ 18 }
@@ -36,7 +37,7 @@ fn units(radians: Frac) -> i128
         .rem_euclid(TURN)
 }
 
-/// The angle of so many radians in steps, rounded to the nearest one.
+/// The angle of so many radians in steps, of its units rounded to the nearest one.
 fn plain_part(radians: Frac, width: u8) -> i128
     requires { width ≤ 32 }
     ensures value { result ≡ pos (plain_part radians.num (unsigned_abs radians.den) width) }
@@ -46,7 +47,11 @@ fn plain_part(radians: Frac, width: u8) -> i128
 }
 
 /// The constant as `angle[width]`: its number of 2^width-ths of a full turn, modulo a full turn.
-/// The part with pi and the part without it, in radians, are rounded to the nearest one each.
+///
+/// Each of its two parts is rounded to the nearest step by itself. The part without pi, in radians,
+/// is first cut down to units of 10^-17 of a radian, and then taken modulo this project's full turn
+/// of 6.28318530717958648 radians, which is a little more than two pi: the angle of a large number
+/// is off by that for each turn that goes away (this project's own).
 pub fn to_angle(value: &Num, width: u8) -> u64
     requires low { 1 ≤ width }
     requires high { width ≤ 32 }

@@ -75,94 +75,98 @@ fn computed(
     result.map(parts)
 }
 
+/// What two numbers come to: each by the plain part and the part with pi, as quotients.
+type Row = ([i64; 4], Operation, [i64; 4], Result<[i128; 4], NumRefusal>);
+
+const NUMBERS: [Row; 18] = [
+    ([1, 3, 0, 1], Operation::Add, [1, 6, 0, 1], Ok([1, 2, 0, 1])),
+    (
+        [1, 3, 1, 2],
+        Operation::Sub,
+        [1, 3, 3, 4],
+        Ok([0, 1, -1, 4]),
+    ),
+    (
+        [LIMIT - 1, 1, 0, 1],
+        Operation::Add,
+        [1, 1, 0, 1],
+        Err(NumRefusal::TooWide),
+    ),
+    (
+        [0, 1, LIMIT - 1, 1],
+        Operation::Add,
+        [0, 1, 1, 1],
+        Err(NumRefusal::TooWide),
+    ),
+    (
+        [1 - LIMIT, 1, 0, 1],
+        Operation::Sub,
+        [1, 1, 0, 1],
+        Err(NumRefusal::TooWide),
+    ),
+    (
+        [0, 1, 1, 1],
+        Operation::Mul,
+        [0, 1, 1, 1],
+        Err(NumRefusal::PiTimesPi),
+    ),
+    ([0, 1, 0, 1], Operation::Mul, [1, 2, 1, 1], Ok([0, 1, 0, 1])),
+    (
+        [3, 1, 0, 1],
+        Operation::Mul,
+        [1, 6, -1, 9],
+        Ok([1, 2, -1, 3]),
+    ),
+    (
+        [1, 6, -1, 9],
+        Operation::Mul,
+        [3, 1, 0, 1],
+        Ok([1, 2, -1, 3]),
+    ),
+    (
+        [999_999_999, 1, 0, 1],
+        Operation::Mul,
+        [1_000_000_001, 1, 0, 1],
+        Ok([999_999_999_999_999_999, 1, 0, 1]),
+    ),
+    (
+        [1_000_000_000, 1, 0, 1],
+        Operation::Mul,
+        [1_000_000_000, 1, 0, 1],
+        Err(NumRefusal::TooWide),
+    ),
+    ([0, 1, 1, 1], Operation::Div, [0, 1, 1, 1], Ok([1, 1, 0, 1])),
+    ([0, 1, 2, 1], Operation::Div, [0, 1, 4, 1], Ok([1, 2, 0, 1])),
+    ([0, 1, 0, 1], Operation::Div, [0, 1, 1, 1], Ok([0, 1, 0, 1])),
+    (
+        [1, 1, 0, 1],
+        Operation::Div,
+        [0, 1, 1, 1],
+        Err(NumRefusal::ByPi),
+    ),
+    (
+        [0, 1, 1, 1],
+        Operation::Div,
+        [1, 1, 1, 1],
+        Err(NumRefusal::ByPi),
+    ),
+    (
+        [1, 1, 1, 1],
+        Operation::Div,
+        [0, 1, 0, 1],
+        Err(NumRefusal::ByZero),
+    ),
+    (
+        [1, 2, 1, 1],
+        Operation::Div,
+        [-1, 2, 0, 1],
+        Ok([-1, 1, -2, 1]),
+    ),
+];
+
 #[test]
 fn numbers(rt: HostRuntime) {
-    let table = [
-        ([1, 3, 0, 1], Operation::Add, [1, 6, 0, 1], Ok([1, 2, 0, 1])),
-        (
-            [1, 3, 1, 2],
-            Operation::Sub,
-            [1, 3, 3, 4],
-            Ok([0, 1, -1, 4]),
-        ),
-        (
-            [LIMIT - 1, 1, 0, 1],
-            Operation::Add,
-            [1, 1, 0, 1],
-            Err(NumRefusal::TooWide),
-        ),
-        (
-            [0, 1, LIMIT - 1, 1],
-            Operation::Add,
-            [0, 1, 1, 1],
-            Err(NumRefusal::TooWide),
-        ),
-        (
-            [1 - LIMIT, 1, 0, 1],
-            Operation::Sub,
-            [1, 1, 0, 1],
-            Err(NumRefusal::TooWide),
-        ),
-        (
-            [0, 1, 1, 1],
-            Operation::Mul,
-            [0, 1, 1, 1],
-            Err(NumRefusal::PiTimesPi),
-        ),
-        ([0, 1, 0, 1], Operation::Mul, [1, 2, 1, 1], Ok([0, 1, 0, 1])),
-        (
-            [3, 1, 0, 1],
-            Operation::Mul,
-            [1, 6, -1, 9],
-            Ok([1, 2, -1, 3]),
-        ),
-        (
-            [1, 6, -1, 9],
-            Operation::Mul,
-            [3, 1, 0, 1],
-            Ok([1, 2, -1, 3]),
-        ),
-        (
-            [999_999_999, 1, 0, 1],
-            Operation::Mul,
-            [1_000_000_001, 1, 0, 1],
-            Ok([999_999_999_999_999_999, 1, 0, 1]),
-        ),
-        (
-            [1_000_000_000, 1, 0, 1],
-            Operation::Mul,
-            [1_000_000_000, 1, 0, 1],
-            Err(NumRefusal::TooWide),
-        ),
-        ([0, 1, 1, 1], Operation::Div, [0, 1, 1, 1], Ok([1, 1, 0, 1])),
-        ([0, 1, 2, 1], Operation::Div, [0, 1, 4, 1], Ok([1, 2, 0, 1])),
-        ([0, 1, 0, 1], Operation::Div, [0, 1, 1, 1], Ok([0, 1, 0, 1])),
-        (
-            [1, 1, 0, 1],
-            Operation::Div,
-            [0, 1, 1, 1],
-            Err(NumRefusal::ByPi),
-        ),
-        (
-            [0, 1, 1, 1],
-            Operation::Div,
-            [1, 1, 1, 1],
-            Err(NumRefusal::ByPi),
-        ),
-        (
-            [1, 1, 1, 1],
-            Operation::Div,
-            [0, 1, 0, 1],
-            Err(NumRefusal::ByZero),
-        ),
-        (
-            [1, 2, 1, 1],
-            Operation::Div,
-            [-1, 2, 0, 1],
-            Ok([-1, 1, -2, 1]),
-        ),
-    ];
-    for (left, operation, right, want) in table {
+    for (left, operation, right, want) in NUMBERS {
         assert_eq!(rt;
             computed(left, operation, right),
             want,

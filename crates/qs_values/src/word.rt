@@ -114,7 +114,7 @@ fn is_reserved(text: &str) -> bool
 
 /// Whether a text is a name: a word that isn't reserved (OpenQASM 3.0, identifiers).
 pub fn is_name(text: &str) -> bool
-    ensures { result ≡ is_name (chars text.now) text.now }
+    ensures { result ≡ is_name text.now }
 {
     is_word(text) && !is_reserved(text)
 }
