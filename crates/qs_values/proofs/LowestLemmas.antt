@@ -28,6 +28,10 @@ mul_regroup a b c = same_in _ _ (simp (up-mul, down-mul) (omega arith))
 pub gcd_of_sizes : (n d : ℤ) (a b g : ℕ) → FitsSigned w128 n → FitsSigned w128 d → a ≡ unsigned_abs (to_z w128 (of_z w128 n)) → b ≡ unsigned_abs (to_z w128 (of_z w128 d)) → IsGcd a b g → IsGcd (unsigned_abs n) (unsigned_abs d) g
 gcd_of_sizes n d a b g n_fits d_fits p q h = subst (λ x. IsGcd x (unsigned_abs d) g) (rw to_z-of_z at p) (subst (λ y. IsGcd a y g) (rw to_z-of_z at q) h)
 
+pub above_is : (d : ℤ) → pos 0 <ℤ d → d ≡ pos (unsigned_abs d)
+above_is (pos d) above = refl
+above_is (negsuc d) above = absurd (omega (arith, ints))
+
 pub abs_above : (d : ℤ) → d ≢ pos 0 → 0 < unsigned_abs d
 abs_above (pos zero) h = absurd (h refl)
 abs_above (pos (suc n)) h = omega arith

@@ -1,5 +1,6 @@
 -- Numbers are unique: operations on numbers have one answer.
-use Rattle.std.proofs.Common.{◌≡◌, ◌≢◌, ◌⊎◌, ℕ, ◌*◌, ◌+◌, ◌<◌, zero, suc, refl, ap, sym, ◌∙◌, arith, ℤ, pos, negsuc, ◌*ℤ◌, unsigned_abs, inl, inr, Result, Ok, Err}
+use Rattle.std.proofs.Common.{◌≡◌, ◌≢◌, ◌⊎◌, refl, ap, sym, ◌∙◌, arith, ℤ, pos, ◌*ℤ◌, inl, inr, Result, Ok, Err}
+use Rattle.std.proofs.Math.IntN.{*ℤ_comm, zero-*ℤ}
 use Rattle.std.proofs.lemmas.Int.{ints}
 use borrow.Author.Differences.{same_in}
 use Rattle.qs_values.specs.Lowest.{IsLowest, IsWide}
@@ -77,14 +78,8 @@ scaled_once x f r s = number_once _ _ _ _ r s (dens x.plain f) (dens x.pi f)
 
 -- ---- products, which either factor may scale
 
-mul_comm : (a b : ℤ) → a *ℤ b ≡ b *ℤ a
-mul_comm a b = same_in _ _ (simp (up-mul, down-mul) (omega arith))
-
 mul_swap : (a b c : ℤ) → (a *ℤ b) *ℤ c ≡ (a *ℤ c) *ℤ b
 mul_swap a b c = same_in _ _ (simp (up-mul, down-mul) (omega arith))
-
-zero_mul : (a : ℤ) → pos 0 *ℤ a ≡ pos 0
-zero_mul a = same_in _ _ (simp (up-mul, down-mul) (omega arith))
 
 -- one fraction by other parts
 moved : (n d m e p q : ℤ) → d ≢ pos 0 → n *ℤ e ≡ m *ℤ d → IsLowest n d p q → IsLowest m e p q
@@ -113,8 +108,8 @@ both_scale x y r no_x no_y h = number_moved
     (y.plain.num *ℤ x.plain.num) (y.plain.den *ℤ x.plain.den) (y.pi.num *ℤ x.plain.num) (y.pi.den *ℤ x.plain.den)
     (x.plain.num *ℤ y.plain.num) (x.plain.den *ℤ y.plain.den) (x.pi.num *ℤ y.plain.num) (x.pi.den *ℤ y.plain.den)
     r (dens y.plain x.plain) (dens y.pi x.plain)
-    (rw (mul_comm y.plain.num x.plain.num, mul_comm x.plain.den y.plain.den) refl)
-    (rw (no_x, no_y, zero_mul x.plain.num, zero_mul y.plain.num, zero_mul (x.pi.den *ℤ y.plain.den), zero_mul (y.pi.den *ℤ x.plain.den)) refl)
+    (rw (*ℤ_comm y.plain.num x.plain.num, *ℤ_comm x.plain.den y.plain.den) refl)
+    (rw (no_x, no_y, zero-*ℤ x.plain.num, zero-*ℤ y.plain.num, zero-*ℤ (x.pi.den *ℤ y.plain.den), zero-*ℤ (y.pi.den *ℤ x.plain.den)) refl)
     h
 
 pub product_once : (x y : Num) (r s : Result Num NumRefusal) → ProductIs x y r → ProductIs x y s → r ≡ s

@@ -9,8 +9,7 @@ use borrow.Author.Differences.{up, down, same_in}
 use Rattle.qs_values.specs.Lowest.{IsLowest, IsWide}
 use Rattle.qs_values.specs.Number.{IsFrac}
 use Rattle.qs_values.specs.declared.number.Frac.{Frac}
-use Rattle.qs_values.proofs.LowestLemmas.{abs_above}
-use Rattle.qs_values.proofs.AngleLemmas.{above_is}
+use Rattle.qs_values.proofs.LowestLemmas.{above_is, abs_above}
 
 -- two numbers have a greatest common divisor
 pub gcd_exists : (n a b : ℕ) → b ≤ n → (g : ℕ) × IsGcd a b g

@@ -20,7 +20,7 @@ fn steps(width: u8) -> i128
 /// The angle `factor * π` in steps, rounded to the nearest one.
 fn pi_part(factor: Frac, width: u8) -> i128
     requires { width ≤ 32 }
-    ensures value { result ≡ pi_part factor.num (unsigned_abs factor.den) width }
+    ensures value { result ≡ pi_part factor width }
     ensures bound { unsigned_abs result < 10 ^ 28 }
 {
     (factor.num() * steps(width) + factor.den()).div_euclid(2 * factor.den())
@@ -29,8 +29,8 @@ fn pi_part(factor: Frac, width: u8) -> i128
 /// The angle of so many radians, cut down to units of 10^-17 of a radian, modulo this project's full
 /// turn.
 fn units(radians: Frac) -> i128
-    ensures value { result ≡ pos (units radians.num (unsigned_abs radians.den)) }
-    ensures bound { units radians.num (unsigned_abs radians.den) < 10 ^ 18 }
+    ensures value { result ≡ units radians }
+    ensures bound { unsigned_abs result < 10 ^ 18 }
 {
     (radians.num() * RADIAN)
         .div_euclid(radians.den())
@@ -40,10 +40,10 @@ fn units(radians: Frac) -> i128
 /// The angle of so many radians in steps, of its units rounded to the nearest one.
 fn plain_part(radians: Frac, width: u8) -> i128
     requires { width ≤ 32 }
-    ensures value { result ≡ pos (plain_part radians.num (unsigned_abs radians.den) width) }
+    ensures value { result ≡ plain_part radians width }
     ensures bound { unsigned_abs result < 10 ^ 29 }
 {
-    (2 * (units(radians) * steps(width)) + TURN) / (2 * TURN)
+    (2 * (units(radians) * steps(width)) + TURN).div_euclid(2 * TURN)
 }
 
 /// The constant as `angle[width]`: its number of 2^width-ths of a full turn, modulo a full turn.
@@ -55,7 +55,7 @@ fn plain_part(radians: Frac, width: u8) -> i128
 pub fn to_angle(value: &Num, width: u8) -> u64
     requires low { 1 ≤ width }
     requires high { width ≤ 32 }
-    ensures value { result ≡ angle_of value.now width }
+    ensures value { pos result ≡ angle_of value.now width }
     ensures bound { result < 2 ^ width }
 {
     let sum = pi_part(value.pi, width) + plain_part(value.plain, width);
