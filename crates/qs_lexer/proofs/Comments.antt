@@ -1,6 +1,6 @@
 -- Comments, as the reader follows them.
 use Rattle.std.proofs.Common.{◌≡◌, ℕ, List, [], ◌∷◌, ◌++◌, Bool, true, false, ◌&&◌, ◌||◌, not, nat_eq, codes, is_some, Option, Some, None, refl, ap, sym, ◌∙◌, subst, true≢false, arith}
-use Rattle.std.proofs.lemmas.Bool.{and_parts, or_parts, or_from, eqb-true}
+use Rattle.std.proofs.lemmas.Bool.{and_parts, or_parts, or_from, eqb-true, cond_both}
 use Rattle.std.proofs.lemmas.Bool.Decides.{nat_tests}
 use Rattle.std.proofs.lemmas.Option.{same_Some}
 use Rattle.qs_lexer.specs.declared.shape.Shape.{Shape}
@@ -8,7 +8,7 @@ use Rattle.qs_lexer.specs.declared.shape.Shape.TheVariants as shape
 use Rattle.qs_lexer.specs.declared.state.State.TheVariants.{Blank, Comment}
 use Rattle.qs_lexer.specs.Forms.{begins, has_end}
 use Rattle.qs_lexer.specs.Scan.{run, shape_before}
-use Rattle.qs_lexer.proofs.Runs.{either, last_through, run-append, where_so_parts}
+use Rattle.qs_lexer.proofs.Runs.{last_through, run-append, where_so_parts}
 
 -- what follows in a comment, behind its last star where that may end it
 abbrev pub behind_star : Bool → List ℕ → List ℕ
@@ -74,7 +74,7 @@ from_comment star [] next told h =
     let parts = where_so_parts (not (is_some next)) shape.OpenComment told h in
     subst (λ s. GoesOn star [] next s) parts.1 (at_end star next parts.0)
 from_comment star (c ∷ cs) next told h =
-    either (λ s. shape_before (run s cs) next ≡ Some told → GoesOn star (c ∷ cs) next told) (star && nat_eq c 47) Blank (Comment (nat_eq c 42))
+    cond_both (star && nat_eq c 47) Blank (Comment (nat_eq c 42)) (λ s. shape_before (run s cs) next ≡ Some told → GoesOn star (c ∷ cs) next told)
     (λ ends so.
     let parts = and_parts star (nat_eq c 47) ends in
     let blank = last_through Blank (λ d. refl) cs next told so in

@@ -1,12 +1,13 @@
 -- The reader tells each form of a text.
 use Rattle.std.proofs.Common.{◌≡◌, ◌⊎◌, inl, inr, ℕ, List, [], ◌∷◌, ◌++◌, Bool, true, false, ◌&&◌, nat_eq, codes, slice_get, Option, Some, IsTrue, refl, ap, sym, subst₂, true≢false}
+use Rattle.std.specs.Char.{is_ascii_digit}
 use Rattle.std.specs.List.{list_all}
 use Rattle.std.proofs.lemmas.Bool.{and_parts, cases_Bool, eqb-true}
 use Rattle.qs_values.specs.Names.{begins_word, continues_word}
 use Rattle.qs_lexer.specs.declared.shape.Shape.{Shape}
 use Rattle.qs_lexer.specs.declared.shape.Shape.TheVariants.{Gap, OpenComment, OpenText, Word, Physical, Whole, Decimal, Time, Text, Sign}
 use Rattle.qs_lexer.specs.declared.state.State.TheVariants as state
-use Rattle.qs_lexer.specs.Forms.{EndsLine, Form, IsGap, IsWord, is_decimal_digit, is_in_line}
+use Rattle.qs_lexer.specs.Forms.{EndsLine, Form, IsGap, IsWord, is_in_line}
 use Rattle.qs_lexer.specs.Scan.{run, shape_before}
 use Rattle.qs_lexer.proofs.Runs.{line_stays, physical_stays, stayed, word_stays}
 use Rattle.qs_lexer.proofs.Signs.{complete_sign}
@@ -42,11 +43,11 @@ word_told first (c ∷ cs) next is = elim (cases_Bool (nat_eq c 112 && first)) [
   | inr other ↦ (let parts = and_parts (begins_word c) (list_all continues_word cs) is.0 in rw (word_starts first c parts.0 other, stayed state.Word continues_word word_stays cs parts.1) refl)
 ]
 
-physical_told : (first : Bool) (ds : List ℕ) (next : Option ℕ) → IsTrue (list_all is_decimal_digit ds) → ¬ (ds ≡ []) → shape_before (run (state.Start first) (codes "$" ++ ds)) next ≡ Some Physical
+physical_told : (first : Bool) (ds : List ℕ) (next : Option ℕ) → IsTrue (list_all is_ascii_digit ds) → ¬ (ds ≡ []) → shape_before (run (state.Start first) (codes "$" ++ ds)) next ≡ Some Physical
 physical_told first [] next digits some = absurd (some refl)
 physical_told first (c ∷ cs) next digits some =
-    let parts = and_parts (is_decimal_digit c) (list_all is_decimal_digit cs) digits in
-    rw (parts.0, stayed state.Physical is_decimal_digit physical_stays cs parts.1) refl
+    let parts = and_parts (is_ascii_digit c) (list_all is_ascii_digit cs) digits in
+    rw (parts.0, stayed state.Physical is_ascii_digit physical_stays cs parts.1) refl
 
 pub complete : (first : Bool) (t after : List ℕ) (shape : Shape) → Form first shape t after → shape_before (run (state.Start first) t) (slice_get after 0) ≡ Some shape
 complete first t after Gap is = gap_told first t after is

@@ -1,7 +1,8 @@
 -- Digits with single `_` between them.
 use Rattle.std.proofs.Common.{◌≡◌, ◌⊎◌, inl, inr, ℕ, List, [], ◌∷◌, ◌++◌, Bool, true, false, ◌&&◌, cond, leb, nat_eq, ◌+◌, ◌-◌, ◌<◌, ◌≤◌, zero, suc, codes, refl, ap, subst, ◌∙◌, append_assoc, arith}
+use Rattle.std.specs.Char.{is_ascii_digit}
 use Rattle.std.proofs.lemmas.Bool.{and_parts, cond_both, leb-true}
-use Rattle.qs_lexer.specs.Forms.{AreDigits, goes_on, is_decimal_digit}
+use Rattle.qs_lexer.specs.Forms.{AreDigits, goes_on}
 
 -- digits, and a `_` behind them where the last character is no digit
 abbrev pub AreSoFar : (ℕ → Bool) → Bool → List ℕ → Type 0
@@ -66,7 +67,7 @@ below-ten P p0 p1 p2 p3 p4 p5 p6 p7 p8 p9 (suc (suc (suc (suc (suc (suc (suc (su
 below-ten P p0 p1 p2 p3 p4 p5 p6 p7 p8 p9 (suc (suc (suc (suc (suc (suc (suc (suc (suc (suc n)))))))))) h = absurd (omega arith)
 
 -- a decimal digit is one of these
-pub decimal-cases : (P : ℕ → Type 0) → P 48 → P 49 → P 50 → P 51 → P 52 → P 53 → P 54 → P 55 → P 56 → P 57 → (c : ℕ) → is_decimal_digit c ≡ true → P c
+pub decimal-cases : (P : ℕ → Type 0) → P 48 → P 49 → P 50 → P 51 → P 52 → P 53 → P 54 → P 55 → P 56 → P 57 → (c : ℕ) → is_ascii_digit c ≡ true → P c
 decimal-cases P p0 p1 p2 p3 p4 p5 p6 p7 p8 p9 c h =
     let within = between 48 57 c h in
     let low : 48 ≤ c = within.0 in

@@ -1,5 +1,5 @@
 -- A source's first fault, behind a front that is cut, and its tokens where there is none.
-use Rattle.std.proofs.Common.{◌≡◌, inl, inr, ℕ, pos, ◌<◌, ◌^◌, List, [], ◌++◌, Bool, true, false, not, ◌==◌, Ok, Err, length, take, drop, refl, sym, ap, ◌∙◌, subst, arith, append_assoc, append-nil, length-append, length-take-le, take-append-drop}
+use Rattle.std.proofs.Common.{◌≡◌, ◌⊎◌, inl, inr, ℕ, pos, ◌<◌, ◌^◌, List, [], ◌++◌, Bool, true, false, not, ◌==◌, Ok, Err, length, take, drop, refl, sym, ap, ◌∙◌, subst, arith, append_assoc, append-nil, length-append, length-take-le, take-append-drop}
 use lib.Utf8.{encode}
 use Rattle.std.proofs.Math.Seq.{take-append_seam}
 use Rattle.std.proofs.lemmas.Int.{ints}
@@ -8,7 +8,7 @@ use Rattle.std.specs.Bool.{MatchBool}
 use Rattle.std.specs.Str.{IsUtf8, IsValidUpTo, chars}
 use Rattle.qs_values.specs.declared.span.Span.{Span}
 use Rattle.qs_lexer.specs.declared.refusal.LexRefusal.{LexRefusal}
-use Rattle.qs_lexer.specs.declared.refusal.LexRefusal.TheVariants.{NotUtf8, BadChar, OpenComment as OpenCommentFault, OpenText as OpenTextFault, NumberTooWide, TooManyTokens, Memory}
+use Rattle.qs_lexer.specs.declared.refusal.LexRefusal.TheVariants.{NotUtf8, BadChar, Memory}
 use Rattle.qs_lexer.specs.declared.shape.Shape.{Shape}
 use Rattle.qs_lexer.specs.declared.shape.Shape.TheVariants.{Gap, OpenComment, OpenText, Word, Physical, Whole, Decimal, Time, Text, Sign}
 use Rattle.qs_lexer.specs.declared.token.Token.{Token}
@@ -16,20 +16,14 @@ use Rattle.qs_lexer.specs.declared.token.TokenKind.{TokenKind}
 use Rattle.qs_lexer.specs.Values.{IsTooWide, KindIs, scaled}
 use Rattle.qs_values.proofs.OneQuotient.{answer_excludes_wide}
 use Rattle.qs_lexer.specs.Cut.{place_behind_all, start}
-use Rattle.qs_lexer.specs.Lexed.{HasFault, IsClear, IsFaultAt, IsReadable, LexIs, Stands, text_of}
-use Rattle.qs_lexer.specs.Scan.{IsPieceFault}
+use Rattle.qs_lexer.specs.Lexed.{HasFault, IsClear, IsFaultAt, IsPieceFault, IsReadable, LexIs, Stands, text_of}
 use Rattle.qs_lexer.proofs.FrontLemmas.{IsFront}
 use Rattle.qs_lexer.proofs.TextLemmas.{empty_from_chars, empty_if, some_if}
 
 -- a fault, as the answer of `lex`
 is_answer : (bytes : List ℕ) (refusal : LexRefusal) → HasFault bytes refusal → LexIs bytes (Err refusal)
-is_answer bytes (NotUtf8 span) fault = fault
-is_answer bytes (BadChar span) fault = fault
-is_answer bytes (OpenCommentFault span) fault = fault
-is_answer bytes (OpenTextFault span) fault = fault
-is_answer bytes (NumberTooWide span) fault = fault
-is_answer bytes (TooManyTokens span) fault = fault
 is_answer bytes Memory fault = tt
+is_answer bytes refusal fault = fault
 
 module _ {bytes text tail rest : List ℕ} {place : Span} {first : Bool} {tokens : List Token} (readable : IsReadable bytes text tail) (front : IsFront text rest place first tokens) where
   pub fails : (refusal : LexRefusal) → IsFaultAt first (chars rest) tail (length tokens) place refusal → LexIs bytes (Err refusal)
@@ -48,14 +42,11 @@ module _ {bytes text tail rest : List ℕ} {place : Span} {first : Bool} {tokens
   })
 
   -- a fault of a piece that stands
-  pub piece_fails : (refusal : LexRefusal) (form : Shape) (t : List ℕ) → Stands first (chars rest) tail form t → IsPieceFault (length tokens) place form t refusal → LexIs bytes (Err refusal)
-  piece_fails (NotUtf8 span) form t stands fault = absurd fault
-  piece_fails (BadChar span) form t stands fault = absurd fault
-  piece_fails (OpenCommentFault span) form t stands fault = fails (OpenCommentFault span) (t, subst (λ s. Stands first (chars rest) tail s t) fault.0 stands, fault.1)
-  piece_fails (OpenTextFault span) form t stands fault = fails (OpenTextFault span) (t, subst (λ s. Stands first (chars rest) tail s t) fault.0 stands, fault.1)
-  piece_fails (NumberTooWide span) form t stands fault = fails (NumberTooWide span) (form, t, stands, fault.0, fault.1)
-  piece_fails (TooManyTokens span) form t stands fault = fails (TooManyTokens span) (fault.0, form, t, stands, fault.1, fault.2, fault.3)
-  piece_fails Memory form t stands fault = tt
+  pub piece_fails : (refusal : LexRefusal) (form : Shape) (t : List ℕ) → Stands first (chars rest) tail form t → (refusal ≡ Memory) ⊎ IsPieceFault (length tokens) place form t refusal → LexIs bytes (Err refusal)
+  piece_fails refusal form t stands (inl memory) = subst (λ r. LexIs bytes (Err r)) (sym memory) tt
+  piece_fails (NotUtf8 span) form t stands (inr fault) = absurd fault
+  piece_fails (BadChar span) form t stands (inr fault) = absurd fault
+  piece_fails refusal form t stands (inr fault) = fails refusal (form, t, stands, fault)
 
   -- all is cut
   pub all_cut : rest ≡ [] → tail ≡ [] → LexIs bytes (Ok tokens)

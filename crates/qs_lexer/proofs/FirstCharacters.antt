@@ -2,16 +2,16 @@
 use Rattle.std.proofs.Common.{◌≡◌, ℕ, ◌<◌, Bool, true, false, ◌&&◌, ◌||◌, nat_eq, refl, arith, sym, ◌∙◌, true≢false}
 use Rattle.std.proofs.lemmas.Bool.{agree_below_at, false_from_ne_true, and_from, or_parts}
 use Rattle.std.proofs.lemmas.Bool.Decides.{nat_tests}
-use Rattle.std.specs.Char.{is_ascii_alphabetic}
+use Rattle.std.specs.Char.{is_ascii_alphabetic, is_ascii_digit}
 use Rattle.qs_values.specs.Names.{begins_word}
 use Rattle.qs_values.proofs.AsciiWords.{begins_word-ascii}
 use Rattle.qs_lexer.specs.declared.state.State.TheVariants.{Word}
-use Rattle.qs_lexer.specs.Forms.{is_blank, is_decimal_digit}
+use Rattle.qs_lexer.specs.Forms.{is_blank}
 use Rattle.qs_lexer.specs.Scan.{at_start, is_one_sign}
 
 -- the characters that begin a piece other than a word
 abbrev begins_other : ℕ → Bool
-begins_other c = is_blank c || (nat_eq c 47 || (nat_eq c 64 || (nat_eq c 35 || (nat_eq c 36 || (nat_eq c 34 || (nat_eq c 48 || (nat_eq c 46 || (is_decimal_digit c || is_one_sign c))))))))
+begins_other c = is_blank c || (nat_eq c 47 || (nat_eq c 64 || (nat_eq c 35 || (nat_eq c 36 || (nat_eq c 34 || (nat_eq c 48 || (nat_eq c 46 || (is_ascii_digit c || is_one_sign c))))))))
 
 -- of ASCII, the characters that begin a word
 abbrev begins_letter : ℕ → Bool
@@ -37,5 +37,5 @@ word_starts first c word no_pragma =
     let quote = or_parts (nat_eq c 34) _ dollar.1 in
     let zero = or_parts (nat_eq c 48) _ quote.1 in
     let point = or_parts (nat_eq c 46) _ zero.1 in
-    let digit = or_parts (is_decimal_digit c) _ point.1 in
+    let digit = or_parts (is_ascii_digit c) _ point.1 in
     rw (digit.1, word, blank.0, slash.0, at.0, hash.0, no_pragma, dollar.0, quote.0, zero.0, point.0, digit.0) refl

@@ -6,7 +6,7 @@ use Rattle.qs_values.specs.declared.span.Span.{Span}
 use Rattle.qs_lexer.specs.declared.shape.Shape.{Shape}
 use Rattle.qs_lexer.specs.declared.token.Token.{Token}
 use Rattle.qs_lexer.specs.Cut.{AreTokens, IsCut, IsLongest, Piece, first_behind, first_behind_all, place_behind_all, start}
-use Rattle.qs_lexer.specs.Lexed.{most_tokens, text_of}
+use Rattle.qs_lexer.specs.Lexed.{longest_source, most_tokens, text_of}
 use Rattle.qs_lexer.specs.Scan.{Adds, Begins, first_of}
 use Rattle.qs_lexer.proofs.CutLemmas.{cut_more, first_behind_more, first_of_is, place_more, tokens_more}
 use Rattle.qs_lexer.proofs.PlaceLemmas.{col_near_all, line_grows, line_near_all}
@@ -19,9 +19,9 @@ pub record IsFront (text rest : List ℕ) (place : Span) (first : Bool) (tokens 
   pub few : length tokens ≤ most_tokens
   pub at : place ≡ place_behind_all start (text_of pieces)
   pub begins : first ≡ first_behind_all true pieces
-  pub lines : place.line + length (chars rest) ≤ 1048577
-  pub columns : place.col + length (chars rest) ≤ 1048577
-  pub short : length (chars rest) ≤ 1048576
+  pub lines : place.line + length (chars rest) ≤ longest_source + 1
+  pub columns : place.col + length (chars rest) ≤ longest_source + 1
+  pub short : length (chars rest) ≤ longest_source
   pub utf8 : IsUtf8 rest
 
 -- a text has at most as many characters as bytes
@@ -29,7 +29,7 @@ pub length-chars : (bs : List ℕ) → IsUtf8 bs → length (chars bs) ≤ lengt
 length-chars bs utf8 = omega (arith, length-le-encodes (chars bs), ap length (encodes-chars bs utf8))
 
 -- before the first piece
-pub no_front : (text : List ℕ) → IsUtf8 text → length text ≤ 1048576 → IsFront text text start true []
+pub no_front : (text : List ℕ) → IsUtf8 text → length text ≤ longest_source → IsFront text text start true []
 no_front text utf8 short = record {
   pieces = [];
   cut = refl;

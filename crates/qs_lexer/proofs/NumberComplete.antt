@@ -1,5 +1,6 @@
 -- What is a number is one to the reader.
 use Rattle.std.proofs.Common.{◌≡◌, ◌⊎◌, inl, inr, ℕ, List, [], ◌∷◌, ◌++◌, Bool, true, false, codes, eqb-true, refl, ap, sym, subst, ◌∙◌}
+use Rattle.std.specs.Char.{is_ascii_digit}
 use Rattle.std.specs.Prelude.{Option, Some}
 use Rattle.qs_lexer.specs.declared.shape.Shape.TheVariants.{Whole, Decimal, Time}
 use Rattle.qs_lexer.specs.declared.state.Base.{Base}
@@ -8,7 +9,7 @@ use Rattle.qs_lexer.specs.declared.state.State.{State}
 use Rattle.qs_lexer.specs.declared.state.State.TheVariants.{Start, Zero, Digits, Based, Point, Pointed, Part, Letter, Signed, Exponent, Ended}
 use Rattle.qs_lexer.specs.declared.token.Unit.{Unit as TimeUnit}
 use Rattle.qs_lexer.specs.declared.token.Unit.TheVariants.{Dt, Ns, Us, Ms, S}
-use Rattle.qs_lexer.specs.Forms.{AreDigits, IsDecimal, IsExponent, IsPointed, IsTime, IsUnit, IsWhole, MayBeDigits, goes_on, is_decimal_digit}
+use Rattle.qs_lexer.specs.Forms.{AreDigits, IsDecimal, IsExponent, IsPointed, IsTime, IsUnit, IsWhole, MayBeDigits, goes_on}
 use Rattle.qs_lexer.specs.Scan.{is_digit_of, run, shape_before, step}
 use Rattle.qs_lexer.proofs.DigitLemmas.{decimal-cases, goes_on-cases}
 use Rattle.qs_lexer.proofs.Runs.{run-append}
@@ -38,13 +39,13 @@ first-digits-run {digit} {at} keeps s begins (c ∷ cs) h =
       | inr p ↦ absurd (let bad : false ≡ true = p.2 in cc)
     ]
 
-keeps-digits : Keeps is_decimal_digit Digits
+keeps-digits : Keeps is_ascii_digit Digits
 keeps-digits = record { on = λ behind c is. rw is refl; low = refl }
 
-keeps-part : Keeps is_decimal_digit Part
+keeps-part : Keeps is_ascii_digit Part
 keeps-part = record { on = λ behind c is. rw is refl; low = refl }
 
-keeps-exponent : Keeps is_decimal_digit Exponent
+keeps-exponent : Keeps is_ascii_digit Exponent
 keeps-exponent = record { on = λ behind c is. rw is refl; low = refl }
 
 based-low : (base : Base) → step (Based base true) 95 ≡ Based base false
@@ -61,27 +62,27 @@ abbrev EndsWhole : State → Type 0
 EndsWhole s = (s ≡ Zero) ⊎ (s ≡ Digits true)
 
 -- more digits behind `0`
-zero-run : (ds : List ℕ) → goes_on is_decimal_digit true ds ≡ true → EndsWhole (run Zero ds)
+zero-run : (ds : List ℕ) → goes_on is_ascii_digit true ds ≡ true → EndsWhole (run Zero ds)
 zero-run [] h = inl refl
 zero-run (c ∷ cs) h =
-    inr (elim (goes_on-cases is_decimal_digit true c cs h) [
+    inr (elim (goes_on-cases is_ascii_digit true c cs h) [
       | inl p ↦ ap (λ s. run s cs) (decimal-cases (λ c. step Zero c ≡ Digits true) refl refl refl refl refl refl refl refl refl refl c p.0) ∙ digits-run keeps-digits true cs p.1
       | inr p ↦ ap (λ c. run (step Zero c) cs) (eqb-true c 95 p.1) ∙ digits-run keeps-digits false cs p.3
     ])
 
-start-digit : (first : Bool) (c : ℕ) → is_decimal_digit c ≡ true → EndsWhole (step (Start first) c)
+start-digit : (first : Bool) (c : ℕ) → is_ascii_digit c ≡ true → EndsWhole (step (Start first) c)
 start-digit first c is =
     decimal-cases (λ c. EndsWhole (step (Start first) c)) (inl refl) (inr refl) (inr refl) (inr refl) (inr refl) (inr refl) (inr refl) (inr refl) (inr refl) (inr refl) c is
 
 -- digits behind a first one
-more-run : (s : State) (ds : List ℕ) → EndsWhole s → goes_on is_decimal_digit true ds ≡ true → EndsWhole (run s ds)
+more-run : (s : State) (ds : List ℕ) → EndsWhole s → goes_on is_ascii_digit true ds ≡ true → EndsWhole (run s ds)
 more-run s ds (inl e) h = subst (λ s. EndsWhole (run s ds)) (sym e) (zero-run ds h)
 more-run s ds (inr e) h = inr (ap (λ s. run s ds) e ∙ digits-run keeps-digits true ds h)
 
-whole-run : (first : Bool) (t : List ℕ) → AreDigits is_decimal_digit t → EndsWhole (run (Start first) t)
+whole-run : (first : Bool) (t : List ℕ) → AreDigits is_ascii_digit t → EndsWhole (run (Start first) t)
 whole-run first [] h = absurd cc
 whole-run first (c ∷ cs) h =
-    elim (goes_on-cases is_decimal_digit false c cs h) [
+    elim (goes_on-cases is_ascii_digit false c cs h) [
       | inl p ↦ more-run (step (Start first) c) cs (start-digit first c p.0) p.1
       | inr p ↦ absurd (let bad : false ≡ true = p.2 in cc)
     ]
@@ -123,7 +124,7 @@ pointed-part-run : (part : List ℕ) → MayBeDigits part → EndsPointed (run P
 pointed-part-run part (inl e) = inl (ap (run Pointed) e)
 pointed-part-run part (inr h) = inr (first-digits-run keeps-part Pointed (λ c is. rw is refl) part h)
 
-whole-point : (first : Bool) (whole part : List ℕ) → AreDigits is_decimal_digit whole → run (Start first) (whole ++ codes "." ++ part) ≡ run Pointed part
+whole-point : (first : Bool) (whole part : List ℕ) → AreDigits is_ascii_digit whole → run (Start first) (whole ++ codes "." ++ part) ≡ run Pointed part
 whole-point first whole part w =
     run-append (Start first) (whole ++ codes ".") part ∙ ap (λ s. run s part) (run-append (Start first) whole (codes ".") ∙ point-follows (run (Start first) whole) (whole-run first whole w))
 
@@ -147,11 +148,11 @@ letter-follows s (inl (inr e)) letter l = ap (λ s. step s letter) e ∙ letter-
 letter-follows s (inr (inl e)) letter l = ap (λ s. step s letter) e ∙ letter-at Pointed refl refl letter l
 letter-follows s (inr (inr e)) letter l = ap (λ s. step s letter) e ∙ letter-at (Part true) refl refl letter l
 
-first-of-exponent : (c : ℕ) → is_decimal_digit c ≡ true → step Letter c ≡ Exponent true
+first-of-exponent : (c : ℕ) → is_ascii_digit c ≡ true → step Letter c ≡ Exponent true
 first-of-exponent c is = decimal-cases (λ c. step Letter c ≡ Exponent true) refl refl refl refl refl refl refl refl refl refl c is
 
 -- a sign or none, and digits
-signed-run : (sign ds : List ℕ) → (sign ≡ []) ⊎ ((sign ≡ codes "+") ⊎ (sign ≡ codes "-")) → AreDigits is_decimal_digit ds → run Letter (sign ++ ds) ≡ Exponent true
+signed-run : (sign ds : List ℕ) → (sign ≡ []) ⊎ ((sign ≡ codes "+") ⊎ (sign ≡ codes "-")) → AreDigits is_ascii_digit ds → run Letter (sign ++ ds) ≡ Exponent true
 signed-run sign ds (inl e) h = ap (λ u. run Letter (u ++ ds)) e ∙ first-digits-run keeps-exponent Letter first-of-exponent ds h
 signed-run sign ds (inr (inl e)) h = ap (λ u. run Letter (u ++ ds)) e ∙ first-digits-run keeps-exponent Signed (λ c is. rw is refl) ds h
 signed-run sign ds (inr (inr e)) h = ap (λ u. run Letter (u ++ ds)) e ∙ first-digits-run keeps-exponent Signed (λ c is. rw is refl) ds h

@@ -1,7 +1,7 @@
 -- Pragmas, as the reader follows them letter by letter.
 use Rattle.std.proofs.Common.{◌≡◌, ℕ, ◌+◌, List, [], ◌∷◌, ◌++◌, Bool, true, false, ◌&&◌, ◌||◌, not, if◌then◌else◌, nat_eq, nat_lt, codes, Option, Some, refl, ap, sym, ◌∙◌, true≢false}
 use Rattle.std.specs.List.{list_all}
-use Rattle.std.proofs.lemmas.Bool.{and_from, and_parts, eqb-true, eq-eqb, not-true, or_parts}
+use Rattle.std.proofs.lemmas.Bool.{and_from, and_parts, eqb-true, eq-eqb, not-true, or_parts, cond_both}
 use Rattle.std.proofs.lemmas.Option.{same_Some}
 use Rattle.qs_values.specs.Names.{continues_word}
 use Rattle.qs_lexer.specs.declared.shape.Shape.{Shape}
@@ -10,7 +10,7 @@ use Rattle.qs_lexer.specs.declared.state.State.{State}
 use Rattle.qs_lexer.specs.declared.state.State.TheVariants.{Nothing, Line, Pragma, Word}
 use Rattle.qs_lexer.specs.Forms.{begins, is_in_line}
 use Rattle.qs_lexer.specs.Scan.{ends_line, letter_of_pragma, run, shape_before}
-use Rattle.qs_lexer.proofs.Runs.{either, from_nothing, line_stays, stayed, stays_through, where_so_parts, word_stays}
+use Rattle.qs_lexer.proofs.Runs.{from_nothing, line_stays, stayed, stays_through, where_so_parts, word_stays}
 
 -- So many letters were read and these are left.
 pub data Left : ℕ → List ℕ → Type 0 where
@@ -60,19 +60,19 @@ from_pragma hash none [] next told h =
     rw (← ended.1) ([], refl, refl, refl, ended.0)
 from_pragma hash none (c ∷ cs) next told h =
     let P : State → Type 0 = λ s. shape_before (run s cs) next ≡ Some told → PragmaGoesOn hash [] (c ∷ cs) next told in
-    either P (continues_word c) (if hash then Nothing else Word) _ (λ word so. as_word hash [] c cs next told word (λ e. absurd cc) so)
-    (λ other. either P (nat_eq c 10) Nothing Line (λ feed so. absurd (from_nothing cs next told so)) (λ inside so. as_line hash c cs next told other (ap not inside) so)) h
+    cond_both (continues_word c) (if hash then Nothing else Word) _ P (λ word so. as_word hash [] c cs next told word (λ e. absurd cc) so)
+    (λ other. cond_both (nat_eq c 10) Nothing Line P (λ feed so. absurd (from_nothing cs next told so)) (λ inside so. as_line hash c cs next told other (ap not inside) so)) h
 from_pragma hash (one n letters few some word more) [] next told h =
     let told_word = where_so_parts (not hash) shape.Word told (rw some at h) in
     rw (← told_word.1) (not-true hash told_word.0, refl, λ e. absurd cc)
 from_pragma hash (one n letters few some word more) (c ∷ cs) next told h =
     let letter = letter_of_pragma n in
     let P : State → Type 0 = λ s. shape_before (run s cs) next ≡ Some told → PragmaGoesOn hash (letter ∷ letters) (c ∷ cs) next told in
-    either P (nat_lt n 6 && nat_eq c letter) (Pragma hash (n + 1)) _
+    cond_both (nat_lt n 6 && nat_eq c letter) (Pragma hash (n + 1)) _ P
     (λ is so. rw (eqb-true c letter (and_parts (nat_lt n 6) (nat_eq c letter) is).1) (with_letter hash letter letters cs next told word (from_pragma hash more cs next told so)))
-    (λ other. either P (continues_word c) (if hash then Nothing else Word) _
+    (λ other. cond_both (continues_word c) (if hash then Nothing else Word) _ P
     (λ goes so. as_word hash (letter ∷ letters) c cs next told goes (λ e. other_letter n c few other cc) so)
-    (λ ends. either P (nat_lt n 6 || nat_eq c 10) Nothing Line (λ feed so. absurd (from_nothing cs next told so)) (λ no so. absurd (true≢false (sym few ∙ (or_parts (nat_lt n 6) (nat_eq c 10) no).0))))) h
+    (λ ends. cond_both (nat_lt n 6 || nat_eq c 10) Nothing Line P (λ feed so. absurd (from_nothing cs next told so)) (λ no so. absurd (true≢false (sym few ∙ (or_parts (nat_lt n 6) (nat_eq c 10) no).0))))) h
 
 -- ---- pragmas are read, and words that begin like one
 
@@ -84,7 +84,7 @@ pragma_word none (c ∷ cs) next word other =
 pragma_word (one n letters few some letter more) [] next word other = rw some refl
 pragma_word (one n letters few some letter more) (c ∷ cs) next word other =
     let parts = and_parts (continues_word c) (list_all continues_word cs) word in
-    either (λ s. shape_before (run s cs) next ≡ Some shape.Word) (nat_lt n 6 && nat_eq c (letter_of_pragma n)) (Pragma false (n + 1)) _
+    cond_both (nat_lt n 6 && nat_eq c (letter_of_pragma n)) (Pragma false (n + 1)) _ (λ s. shape_before (run s cs) next ≡ Some shape.Word)
     (λ is. pragma_word more cs next parts.1 (λ e. other (let same = eqb-true c (letter_of_pragma n) (and_parts (nat_lt n 6) (nat_eq c (letter_of_pragma n)) is).1 in cc)))
     (λ no. rw (parts.0, stayed Word continues_word word_stays cs parts.1) refl)
 

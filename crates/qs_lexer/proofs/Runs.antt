@@ -1,5 +1,6 @@
 -- What the reader's states come to that stay as they are, or that nothing follows.
 use Rattle.std.proofs.Common.{◌≡◌, ℕ, List, [], ◌∷◌, ◌++◌, Bool, true, false, ◌&&◌, not, if◌then◌else◌, nat_eq, Option, Some, None, refl}
+use Rattle.std.specs.Char.{is_ascii_digit}
 use Rattle.std.specs.List.{list_all}
 use Rattle.std.proofs.lemmas.Option.{none-some, same_Some}
 use Rattle.std.proofs.lemmas.List.Sums.{fold-append}
@@ -7,13 +8,8 @@ use Rattle.qs_values.specs.Names.{continues_word}
 use Rattle.qs_lexer.specs.declared.shape.Shape.{Shape}
 use Rattle.qs_lexer.specs.declared.state.State.{State}
 use Rattle.qs_lexer.specs.declared.state.State.TheVariants.{Nothing, Line, Word, Physical}
-use Rattle.qs_lexer.specs.Forms.{is_decimal_digit, is_in_line}
+use Rattle.qs_lexer.specs.Forms.{is_in_line}
 use Rattle.qs_lexer.specs.Scan.{run, shape_before, step, where_so}
-
--- what holds on both sides of a choice
-pub either : {S : Type 0} (P : S → Type 0) (b : Bool) (x y : S) → (b ≡ true → P x) → (b ≡ false → P y) → P (if b then x else y)
-either P true x y f g = f refl
-either P false x y f g = g refl
 
 pub run-append : (s : State) (xs ys : List ℕ) → run s (xs ++ ys) ≡ run (run s xs) ys
 run-append s xs ys = fold-append step s xs ys
@@ -37,7 +33,7 @@ line_stays c = by (nat_eq c 10)
 pub word_stays : Stays Word continues_word
 word_stays c = refl
 
-pub physical_stays : Stays Physical is_decimal_digit
+pub physical_stays : Stays Physical is_ascii_digit
 physical_stays c = refl
 
 -- with such characters alone it comes to itself

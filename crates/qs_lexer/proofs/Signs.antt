@@ -2,14 +2,13 @@
 use Rattle.std.proofs.Common.{◌≡◌, ℕ, ◌<◌, List, [], ◌∷◌, Bool, true, false, ◌&&◌, ◌||◌, nat_eq, codes, Option, Some, refl, sym, ◌∙◌, subst, arith, true≢false, inl, inr}
 use Rattle.std.specs.List.{list_all, list_any}
 use Rattle.std.specs.Str.{bytes_eq}
-use Rattle.std.proofs.lemmas.Bool.{agree_below_at, and_parts, or_cases, eqb-true}
+use Rattle.std.proofs.lemmas.Bool.{agree_below_at, and_parts, or_cases, eqb-true, cond_both}
 use Rattle.std.proofs.lemmas.Bool.Decides.{nat_tests}
 use Rattle.std.proofs.lemmas.Slice.Eq.{bytes_eq-Decides}
 use Rattle.qs_lexer.specs.declared.shape.Shape.{Shape}
 use Rattle.qs_lexer.specs.declared.shape.Shape.TheVariants as shape
 use Rattle.qs_lexer.specs.declared.state.State.TheVariants.{Start}
 use Rattle.qs_lexer.specs.Forms.{IsSign, signs}
-use Rattle.qs_lexer.proofs.Runs.{either}
 use Rattle.qs_lexer.specs.Scan.{is_one_sign, is_two_signs, is_three_signs, takes_equals, run, shape_before}
 
 -- whether a text is a sign
@@ -40,9 +39,9 @@ pub two_are_sign : (a b : ℕ) → is_two_signs a b ≡ true → is_sign (a ∷ 
 unfolding signs
 two_are_sign a b h =
     let P : Bool → Type 0 = λ so. so ≡ true → is_sign (a ∷ b ∷ []) ≡ true in
-    either P (nat_eq b 61) (takes_equals a) _ (λ e so. rw (eqb-true b 61 e) (before_equals_is_sign a so))
-    (λ _. either P (nat_eq b 62) (nat_eq a 45 || nat_eq a 62) _ (λ e so. rw (eqb-true b 62 e) (before_greater_is_sign a so))
-    (λ _. either P (nat_eq b 60 || nat_eq b 42 || nat_eq b 38 || nat_eq b 124) (nat_eq a b) false (λ e so. rw (eqb-true a b so) (twice b e)) (λ _ so. absurd (true≢false (sym so))))) h
+    cond_both (nat_eq b 61) (takes_equals a) _ P (λ e so. rw (eqb-true b 61 e) (before_equals_is_sign a so))
+    (λ _. cond_both (nat_eq b 62) (nat_eq a 45 || nat_eq a 62) _ P (λ e so. rw (eqb-true b 62 e) (before_greater_is_sign a so))
+    (λ _. cond_both (nat_eq b 60 || nat_eq b 42 || nat_eq b 38 || nat_eq b 124) (nat_eq a b) false P (λ e so. rw (eqb-true a b so) (twice b e)) (λ _ so. absurd (true≢false (sym so))))) h
   where
     twice : (c : ℕ) → (nat_eq c 60 || nat_eq c 42 || nat_eq c 38 || nat_eq c 124) ≡ true → is_sign (c ∷ c ∷ []) ≡ true
     twice c e = elim (or_cases (nat_eq c 60 || nat_eq c 42 || nat_eq c 38) (nat_eq c 124) e) [

@@ -1,30 +1,27 @@
 -- What the reader tells of a text is its form.
 use Rattle.std.proofs.Common.{◌≡◌, inl, inr, ℕ, List, [], ◌∷◌, ◌++◌, Bool, true, false, ◌&&◌, if◌then◌else◌, nat_eq, codes, slice_get, append-nil, append_assoc, Some, None, IsTrue, refl, ap, sym, ◌∙◌, subst, true≢false}
+use Rattle.std.specs.Char.{is_ascii_digit}
 use Rattle.std.specs.List.{list_all}
-use Rattle.std.proofs.lemmas.Bool.{and_parts, and_from, eqb-true, eq-eqb}
-use Rattle.std.proofs.lemmas.Option.{same_Some, none-some}
+use Rattle.std.proofs.lemmas.Bool.{and_parts, and_from, eqb-true, eq-eqb, cond_both}
+use Rattle.std.proofs.lemmas.Option.{none-some}
 use Rattle.qs_values.specs.Names.{begins_word, continues_word}
 use Rattle.qs_lexer.specs.declared.shape.Shape.{Shape}
 use Rattle.qs_lexer.specs.declared.shape.Shape.TheVariants as shape
 use Rattle.qs_lexer.specs.declared.state.State.{State}
 use Rattle.qs_lexer.specs.declared.state.State.TheVariants.{Start, Nothing, Blank, Line, Slash, Comment, Pragma, Word, Dollar, Physical, Quote, One, Two, Three, Zero, Digits, Point}
-use Rattle.qs_lexer.specs.Forms.{EndsLine, Form, is_blank, is_decimal_digit, is_in_line}
+use Rattle.qs_lexer.specs.Forms.{EndsLine, Form, is_blank, is_in_line}
 use Rattle.qs_lexer.specs.Scan.{at_slash, at_start, ends_line, is_one_sign, is_two_signs, is_three_signs, run, shape_before, step}
-use Rattle.qs_lexer.proofs.Runs.{either, from_nothing, last_through, line_stays, physical_stays, stays_through, where_so_parts, word_stays}
+use Rattle.qs_lexer.proofs.Runs.{from_nothing, last_through, line_stays, physical_stays, stays_through, where_so_parts, word_stays}
 use Rattle.qs_lexer.proofs.Signs.{one_is_sign, three_are_sign, two_are_sign}
 use Rattle.qs_lexer.proofs.Comments.{GoesOn, from_comment}
 use Rattle.qs_lexer.proofs.Texts.{TextGoesOn, ends_from_next, from_quote}
 use Rattle.qs_lexer.proofs.Pragmas.{PragmaGoesOn, from_pragma, left_behind_hash, left_behind_p}
 use Rattle.qs_lexer.proofs.NumberStates.{ReachedNumber}
-use Rattle.qs_lexer.proofs.NumberSound.{digit-start, number-form, number-step, point-start, zero-start}
+use Rattle.qs_lexer.proofs.NumberSound.{digit-start, form_told, number-form, number-step, point-start, zero-start}
 
 -- Behind a state, where `t` was read before it, what comes to a shape is a text of that form.
 abbrev SoundFrom : Bool → List ℕ → List ℕ → List ℕ → State → Type 0
 SoundFrom first t cs after s = (told : Shape) → shape_before (run s cs) (slice_get after 0) ≡ Some told → Form first told (t ++ cs) after
-
--- a text of this form, where that was told
-form_told : (first : Bool) (t after : List ℕ) (form told : Shape) → Some form ≡ Some told → Form first form t after → Form first told t after
-form_told first t after form told same is = subst (λ s. Form first s t after) (same_Some form told same) is
 
 sound_nothing : (first : Bool) (t cs after : List ℕ) → SoundFrom first t cs after Nothing
 sound_nothing first t cs after told h = absurd (from_nothing cs (slice_get after 0) told h)
@@ -41,7 +38,7 @@ line_parts cs after told h =
 sound_two : (first : Bool) (a b : ℕ) (cs after : List ℕ) → is_two_signs a b ≡ true → SoundFrom first (a ∷ b ∷ []) cs after (Two a b)
 sound_two first a b [] after is told h = form_told first (a ∷ b ∷ []) after shape.Sign told h (two_are_sign a b is, λ p. absurd (let e = p.1 in cc))
 sound_two first a b (c ∷ cs) after is told h =
-    either (λ s. shape_before (run s cs) (slice_get after 0) ≡ Some told → Form first told (a ∷ b ∷ c ∷ cs) after) (is_three_signs a b c) Three Nothing
+    cond_both (is_three_signs a b c) Three Nothing (λ s. shape_before (run s cs) (slice_get after 0) ≡ Some told → Form first told (a ∷ b ∷ c ∷ cs) after)
     (λ three so.
     let last = last_through Three (λ d. refl) cs (slice_get after 0) told so in
     form_told first (a ∷ b ∷ c ∷ cs) after shape.Sign told last.1 (rw last.0 (three_are_sign a b c three), λ p. absurd (let e = p.1 in cc)))
@@ -52,7 +49,7 @@ sound_one first a [] after is other told h =
     form_told first (a ∷ []) after shape.Sign told h
     (one_is_sign a is, λ p. absurd (let e : a ∷ [] ≡ 64 ∷ [] = p.1 in let same : a ≡ 64 = cc in true≢false (sym (and_from (nat_eq a 64) first (eq-eqb a 64 same) p.0) ∙ other)))
 sound_one first a (c ∷ cs) after is other told h =
-    either (λ s. shape_before (run s cs) (slice_get after 0) ≡ Some told → Form first told (a ∷ c ∷ cs) after) (is_two_signs a c) (Two a c) Nothing
+    cond_both (is_two_signs a c) (Two a c) Nothing (λ s. shape_before (run s cs) (slice_get after 0) ≡ Some told → Form first told (a ∷ c ∷ cs) after)
     (λ two so. sound_two first a c cs after two told so) (λ no so. absurd (from_nothing cs (slice_get after 0) told so)) h
 
 -- ---- gaps
@@ -91,9 +88,9 @@ slash_alone first after = (one_is_sign 47 refl, λ p. absurd (let e : codes "/" 
 behind_slash : (first : Bool) (c : ℕ) (cs after : List ℕ) → SoundFrom first (47 ∷ c ∷ []) cs after (at_slash c)
 behind_slash first c cs after =
     let P : State → Type 0 = SoundFrom first (47 ∷ c ∷ []) cs after in
-    either P (nat_eq c 47) Line _ (λ is. rw (eqb-true c 47 is) (line_comment first cs after))
-    (λ _. either P (nat_eq c 42) (Comment false) _ (λ is. rw (eqb-true c 42 is) (sound_comment first cs after))
-    (λ _. either P (nat_eq c 61) (Two 47 61) Nothing (λ is. rw (eqb-true c 61 is) (sound_two first 47 61 cs after refl)) (λ _. sound_nothing first (47 ∷ c ∷ []) cs after)))
+    cond_both (nat_eq c 47) Line _ P (λ is. rw (eqb-true c 47 is) (line_comment first cs after))
+    (λ _. cond_both (nat_eq c 42) (Comment false) _ P (λ is. rw (eqb-true c 42 is) (sound_comment first cs after))
+    (λ _. cond_both (nat_eq c 61) (Two 47 61) Nothing P (λ is. rw (eqb-true c 61 is) (sound_two first 47 61 cs after refl)) (λ _. sound_nothing first (47 ∷ c ∷ []) cs after)))
 
 sound_slash : (first : Bool) (cs after : List ℕ) → SoundFrom first (codes "/") cs after Slash
 sound_slash first [] after told h = form_told first (codes "/") after shape.Sign told h (slash_alone first after)
@@ -128,10 +125,10 @@ sound_word first c cs after word other told h =
 sound_dollar : (first : Bool) (cs after : List ℕ) → SoundFrom first (codes "$") cs after Dollar
 sound_dollar first [] after told h = absurd (none-some told h)
 sound_dollar first (c ∷ cs) after told h =
-    either (λ s. shape_before (run s cs) (slice_get after 0) ≡ Some told → Form first told (codes "$" ++ (c ∷ cs)) after) (is_decimal_digit c) Physical Nothing
+    cond_both (is_ascii_digit c) Physical Nothing (λ s. shape_before (run s cs) (slice_get after 0) ≡ Some told → Form first told (codes "$" ++ (c ∷ cs)) after)
     (λ digit so.
-    let through = stays_through Physical is_decimal_digit physical_stays cs (slice_get after 0) told so in
-    form_told first (codes "$" ++ (c ∷ cs)) after shape.Physical told through.1 (c ∷ cs, refl, and_from (is_decimal_digit c) (list_all is_decimal_digit cs) digit through.0, λ e. absurd cc))
+    let through = stays_through Physical is_ascii_digit physical_stays cs (slice_get after 0) told so in
+    form_told first (codes "$" ++ (c ∷ cs)) after shape.Physical told through.1 (c ∷ cs, refl, and_from (is_ascii_digit c) (list_all is_ascii_digit cs) digit through.0, λ e. absurd cc))
     (λ no so. absurd (from_nothing cs (slice_get after 0) told so)) h
 
 sound_quote : (first : Bool) (cs after : List ℕ) → SoundFrom first (codes "\"") cs after Quote
@@ -152,25 +149,25 @@ sound_number first t (c ∷ cs) after s reached told h =
 -- behind a character that begins a number, a sign or a word
 behind_plain : (first : Bool) (c : ℕ) (cs after : List ℕ) → (nat_eq c 64 && first) ≡ false → (nat_eq c 112 && first) ≡ false
     → SoundFrom first (c ∷ []) cs after
-    (if nat_eq c 48 then Zero else (if nat_eq c 46 then Point else (if is_decimal_digit c then Digits true else (if is_one_sign c then One c else (if begins_word c then Word else Nothing)))))
+    (if nat_eq c 48 then Zero else (if nat_eq c 46 then Point else (if is_ascii_digit c then Digits true else (if is_one_sign c then One c else (if begins_word c then Word else Nothing)))))
 behind_plain first c cs after no_annotation no_pragma =
     let P : State → Type 0 = SoundFrom first (c ∷ []) cs after in
-    either P (nat_eq c 48) Zero _ (λ is. sound_number first (c ∷ []) cs after Zero (zero-start c (eqb-true c 48 is)))
-    (λ _. either P (nat_eq c 46) Point _ (λ is. sound_number first (c ∷ []) cs after Point (point-start c (eqb-true c 46 is)))
-    (λ _. either P (is_decimal_digit c) (Digits true) _ (λ is. sound_number first (c ∷ []) cs after (Digits true) (digit-start c is))
-    (λ _. either P (is_one_sign c) (One c) _ (λ is. sound_one first c cs after is no_annotation)
-    (λ _. either P (begins_word c) Word Nothing (λ is. sound_word first c cs after is no_pragma) (λ _. sound_nothing first (c ∷ []) cs after)))))
+    cond_both (nat_eq c 48) Zero _ P (λ is. sound_number first (c ∷ []) cs after Zero (zero-start c (eqb-true c 48 is)))
+    (λ _. cond_both (nat_eq c 46) Point _ P (λ is. sound_number first (c ∷ []) cs after Point (point-start c (eqb-true c 46 is)))
+    (λ _. cond_both (is_ascii_digit c) (Digits true) _ P (λ is. sound_number first (c ∷ []) cs after (Digits true) (digit-start c is))
+    (λ _. cond_both (is_one_sign c) (One c) _ P (λ is. sound_one first c cs after is no_annotation)
+    (λ _. cond_both (begins_word c) Word Nothing P (λ is. sound_word first c cs after is no_pragma) (λ _. sound_nothing first (c ∷ []) cs after)))))
 
 behind_first : (first : Bool) (c : ℕ) (cs after : List ℕ) → SoundFrom first (c ∷ []) cs after (at_start first c)
 behind_first first c cs after =
     let P : State → Type 0 = SoundFrom first (c ∷ []) cs after in
-    either P (is_blank c) Blank _ (sound_blank first c cs after)
-    (λ _. either P (nat_eq c 47) Slash _ (λ is. rw (eqb-true c 47 is) (sound_slash first cs after))
-    (λ _. either P (nat_eq c 64 && first) Line _ (λ is. let parts = and_parts (nat_eq c 64) first is in rw (eqb-true c 64 parts.0, parts.1) (annotation cs after))
-    (λ no_annotation. either P (nat_eq c 35 && first) (Pragma true 0) _ (λ is. let parts = and_parts (nat_eq c 35) first is in rw (eqb-true c 35 parts.0, parts.1) (sound_hash cs after))
-    (λ _. either P (nat_eq c 112 && first) (Pragma false 1) _ (λ is. let parts = and_parts (nat_eq c 112) first is in rw (eqb-true c 112 parts.0, parts.1) (sound_p cs after))
-    (λ no_pragma. either P (nat_eq c 36) Dollar _ (λ is. rw (eqb-true c 36 is) (sound_dollar first cs after))
-    (λ _. either P (nat_eq c 34) Quote _ (λ is. rw (eqb-true c 34 is) (sound_quote first cs after)) (λ _. behind_plain first c cs after no_annotation no_pragma)))))))
+    cond_both (is_blank c) Blank _ P (sound_blank first c cs after)
+    (λ _. cond_both (nat_eq c 47) Slash _ P (λ is. rw (eqb-true c 47 is) (sound_slash first cs after))
+    (λ _. cond_both (nat_eq c 64 && first) Line _ P (λ is. let parts = and_parts (nat_eq c 64) first is in rw (eqb-true c 64 parts.0, parts.1) (annotation cs after))
+    (λ no_annotation. cond_both (nat_eq c 35 && first) (Pragma true 0) _ P (λ is. let parts = and_parts (nat_eq c 35) first is in rw (eqb-true c 35 parts.0, parts.1) (sound_hash cs after))
+    (λ _. cond_both (nat_eq c 112 && first) (Pragma false 1) _ P (λ is. let parts = and_parts (nat_eq c 112) first is in rw (eqb-true c 112 parts.0, parts.1) (sound_p cs after))
+    (λ no_pragma. cond_both (nat_eq c 36) Dollar _ P (λ is. rw (eqb-true c 36 is) (sound_dollar first cs after))
+    (λ _. cond_both (nat_eq c 34) Quote _ P (λ is. rw (eqb-true c 34 is) (sound_quote first cs after)) (λ _. behind_plain first c cs after no_annotation no_pragma)))))))
 
 pub sound : (first : Bool) (t after : List ℕ) (shape : Shape) → shape_before (run (Start first) t) (slice_get after 0) ≡ Some shape → Form first shape t after
 sound first [] after told h = absurd (none-some told h)

@@ -1,7 +1,7 @@
 -- Texts and the ends of lines, as the reader follows them.
 use Rattle.std.proofs.Common.{◌≡◌, ℕ, List, [], ◌∷◌, ◌++◌, true, not, if◌then◌else◌, nat_eq, codes, slice_get, Option, Some, IsTrue, refl, ap, ◌∙◌, subst}
 use Rattle.std.specs.List.{list_all}
-use Rattle.std.proofs.lemmas.Bool.{and_parts, and_from, eqb-true, not-true, not-false}
+use Rattle.std.proofs.lemmas.Bool.{and_parts, and_from, eqb-true, not-true, not-false, cond_both}
 use Rattle.std.proofs.lemmas.Option.{same_Some}
 use Rattle.qs_lexer.specs.declared.shape.Shape.{Shape}
 use Rattle.qs_lexer.specs.declared.shape.Shape.TheVariants as shape
@@ -9,7 +9,7 @@ use Rattle.qs_lexer.specs.declared.state.State.{State}
 use Rattle.qs_lexer.specs.declared.state.State.TheVariants.{Nothing, Quote, Text}
 use Rattle.qs_lexer.specs.Forms.{EndsLine, is_in_line, is_in_text}
 use Rattle.qs_lexer.specs.Scan.{ends_line, run, shape_before}
-use Rattle.qs_lexer.proofs.Runs.{either, from_nothing, last_through, run-append, where_so_parts}
+use Rattle.qs_lexer.proofs.Runs.{from_nothing, last_through, run-append, where_so_parts}
 
 -- ---- the end of a line
 
@@ -40,11 +40,11 @@ from_quote [] next told h =
     subst (λ s. TextGoesOn [] next s) parts.1 (refl, parts.0)
 from_quote (c ∷ cs) next told h =
     let P : State → Type 0 = λ s. shape_before (run s cs) next ≡ Some told → TextGoesOn (c ∷ cs) next told in
-    either P (nat_eq c 34) Text (if nat_eq c 10 then Nothing else Quote)
+    cond_both (nat_eq c 34) Text (if nat_eq c 10 then Nothing else Quote) P
     (λ e so.
     let text = last_through Text (λ d. refl) cs next told so in
     rw (eqb-true c 34 e, text.0, ← same_Some shape.Text told text.1) ([], refl, refl))
-    (λ no. either P (nat_eq c 10) Nothing Quote
+    (λ no. cond_both (nat_eq c 10) Nothing Quote P
     (λ e so. absurd (from_nothing cs next told so))
     (λ inside so. with_character c cs next told (rw (no, inside) refl) (from_quote cs next told so))) h
 

@@ -1,26 +1,16 @@
 -- A number that reaches 10^19 is past the limit of a fraction.
-use Rattle.std.proofs.Common.{◌≢◌, ℕ, ◌%◌, ◌≤◌, ◌^◌, inl, refl, arith, zero, suc, pos}
+use Rattle.std.proofs.Common.{◌≢◌, ℕ, ◌≤◌, ◌^◌, inl, arith, pos}
 use Rattle.std.specs.Prelude.{int_div}
-use Rattle.std.specs.Int.{IsGcd}
-use Rattle.std.proofs.Math.Nat.{mod-lt}
 use Rattle.std.proofs.lemmas.Nat.{le-div}
 use Rattle.std.proofs.lemmas.Int.{ints}
-use Rattle.std.proofs.lemmas.Nat.Gcd.{IsGcd-from_zero, IsGcd-from_mod}
 use Rattle.qs_values.specs.Lowest.{IsWide}
 use Rattle.qs_values.proofs.LowestLemmas.{lowest_is, gcd_bounds}
-
--- two numbers have a greatest common divisor
-gcd_within : (most a b : ℕ) → b ≤ most → (g : ℕ) × IsGcd a b g
-gcd_within most a zero h = (a, IsGcd-from_zero a 0 refl)
-gcd_within zero a (suc b) h = absurd (omega arith)
-gcd_within (suc most) a (suc b) h =
-    let rest = gcd_within most (suc b) (a % suc b) (omega (arith, mod-lt a {m = suc b} (omega arith))) in
-    (rest.0, IsGcd-from_mod a (suc b) rest.0 rest.1)
+use Rattle.qs_values.proofs.OneQuotient.{gcd_exists}
 
 -- a whole number of 10^36 and more, over 10^17, is too wide
 pub wide_cut : (n : ℕ) → 10 ^ 36 ≤ n → IsWide (pos n) (pos (10 ^ 17))
 wide_cut n h =
-    let found = gcd_within (10 ^ 17) n (10 ^ 17) (omega arith) in
+    let found = gcd_exists (10 ^ 17) n (10 ^ 17) (omega arith) in
     let some : pos (10 ^ 17) ≢ pos 0 = λ e. absurd (omega (arith, ints)) in
     let bounds = gcd_bounds (pos n) (pos (10 ^ 17)) found.0 found.1 some in
     record {

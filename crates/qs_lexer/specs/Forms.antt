@@ -1,5 +1,7 @@
 -- The gaps and lexemes of a source, and what is left open in one (OpenQASM 3.0, lexical structure, in this project's profile).
-use Rattle.std.specs.Prelude.{◌≡◌, ◌⊎◌, ℕ, List, [], ◌∷◌, ◌++◌, Bool, true, false, ◌&&◌, ◌||◌, not, if◌then◌else◌, codes, nat_eq, nat_le, IsTrue}
+use Rattle.std.specs.Prelude.{◌≡◌, ◌⊎◌, ℕ, List, [], ◌∷◌, ◌++◌, Bool, true, false, ◌&&◌, ◌||◌, not, if◌then◌else◌, codes, nat_eq, IsTrue}
+use Rattle.std.specs.Char.{is_ascii_digit, is_ascii_hexdigit}
+use Rattle.std.specs.Int.{is_in_range}
 use Rattle.std.specs.List.{list_all, list_any}
 use Rattle.std.specs.Str.{bytes_eq}
 use Rattle.qs_values.specs.Names.{is_word, continues_word}
@@ -87,25 +89,13 @@ IsSign first t = IsTrue (list_any (bytes_eq t) signs) × ¬ (IsTrue first × (t 
 
 -- ---- numbers
 
--- whether a character is one from `low` to `high`, both among them
-abbrev pub is_between : ℕ → ℕ → ℕ → Bool
-is_between low high c = nat_le low c && nat_le c high
-
--- whether a character is one of `0` to `9`
-abbrev pub is_decimal_digit : ℕ → Bool
-is_decimal_digit c = is_between 48 57 c
-
--- whether a character is one of `0` to `9`, `A` to `F` and `a` to `f`
-abbrev pub is_hexadecimal_digit : ℕ → Bool
-is_hexadecimal_digit c = is_decimal_digit c || is_between 65 70 c || is_between 97 102 c
-
 -- whether a character is `0` or `1`
 abbrev pub is_binary_digit : ℕ → Bool
-is_binary_digit c = is_between 48 49 c
+is_binary_digit c = is_in_range 48 49 c
 
 -- whether a character is one of `0` to `7`
 abbrev pub is_octal_digit : ℕ → Bool
-is_octal_digit c = is_between 48 55 c
+is_octal_digit c = is_in_range 48 55 c
 
 -- whether a text goes on with digits and single `_` between them, and whether its last character is a digit; `behind` says whether a digit stands before it
 abbrev pub goes_on : (ℕ → Bool) → Bool → List ℕ → Bool
@@ -123,30 +113,30 @@ IsBased small large digit t = (letter : ℕ) × (ds : List ℕ) × (t ≡ 48 ∷
 -- a whole number: decimal, hexadecimal by `x`, binary by `b` or octal by `o`
 abbrev pub IsWhole : List ℕ → Type 0
 IsWhole t =
-    AreDigits is_decimal_digit t
-    ⊎ (IsBased 120 88 is_hexadecimal_digit t ⊎ (IsBased 98 66 is_binary_digit t ⊎ IsBased 111 111 is_octal_digit t))
+    AreDigits is_ascii_digit t
+    ⊎ (IsBased 120 88 is_ascii_hexdigit t ⊎ (IsBased 98 66 is_binary_digit t ⊎ IsBased 111 111 is_octal_digit t))
 
 -- digits, or nothing
 abbrev pub MayBeDigits : List ℕ → Type 0
-MayBeDigits t = (t ≡ []) ⊎ AreDigits is_decimal_digit t
+MayBeDigits t = (t ≡ []) ⊎ AreDigits is_ascii_digit t
 
 -- digits with a point before, in or after them
 abbrev pub IsPointed : List ℕ → Type 0
 IsPointed t =
     (whole : List ℕ) × (part : List ℕ) × (t ≡ whole ++ codes "." ++ part)
-    × ((AreDigits is_decimal_digit whole × MayBeDigits part) ⊎ ((whole ≡ []) × AreDigits is_decimal_digit part))
+    × ((AreDigits is_ascii_digit whole × MayBeDigits part) ⊎ ((whole ≡ []) × AreDigits is_ascii_digit part))
 
 -- `e` or `E`, a sign or none, and digits
 abbrev pub IsExponent : List ℕ → Type 0
 IsExponent t =
     (letter : ℕ) × (sign : List ℕ) × (ds : List ℕ) × (t ≡ letter ∷ sign ++ ds) × ((letter ≡ 101) ⊎ (letter ≡ 69))
-    × ((sign ≡ []) ⊎ ((sign ≡ codes "+") ⊎ (sign ≡ codes "-"))) × AreDigits is_decimal_digit ds
+    × ((sign ≡ []) ⊎ ((sign ≡ codes "+") ⊎ (sign ≡ codes "-"))) × AreDigits is_ascii_digit ds
 
 -- a number with a point, or an exponent, or both
 abbrev pub IsDecimal : List ℕ → Type 0
 IsDecimal t =
     IsPointed t
-    ⊎ ((number : List ℕ) × (exponent : List ℕ) × (t ≡ number ++ exponent) × (AreDigits is_decimal_digit number ⊎ IsPointed number) × IsExponent exponent)
+    ⊎ ((number : List ℕ) × (exponent : List ℕ) × (t ≡ number ++ exponent) × (AreDigits is_ascii_digit number ⊎ IsPointed number) × IsExponent exponent)
 
 -- a unit of time, of which `us` may have either micro sign
 abbrev pub IsUnit : TimeUnit → List ℕ → Type 0
@@ -158,7 +148,7 @@ IsUnit S t = t ≡ codes "s"
 
 -- a number, and at once a unit
 abbrev pub IsTime : TimeUnit → List ℕ → Type 0
-IsTime u t = (number : List ℕ) × (unit : List ℕ) × (t ≡ number ++ unit) × (AreDigits is_decimal_digit number ⊎ IsDecimal number) × IsUnit u unit
+IsTime u t = (number : List ℕ) × (unit : List ℕ) × (t ≡ number ++ unit) × (AreDigits is_ascii_digit number ⊎ IsDecimal number) × IsUnit u unit
 
 -- ---- all of them
 
@@ -168,7 +158,7 @@ Form first Gap t after = IsGap first t after
 Form first OpenComment t after = (inner : List ℕ) × (t ≡ codes "/*" ++ inner) × (has_end inner ≡ false) × (after ≡ [])
 Form first OpenText t after = (inner : List ℕ) × (t ≡ codes "\"" ++ inner) × IsTrue (list_all is_in_text inner) × EndsLine after
 Form first Word t after = IsWord first t
-Form first Physical t after = (ds : List ℕ) × (t ≡ codes "$" ++ ds) × IsTrue (list_all is_decimal_digit ds) × ¬ (ds ≡ [])
+Form first Physical t after = (ds : List ℕ) × (t ≡ codes "$" ++ ds) × IsTrue (list_all is_ascii_digit ds) × ¬ (ds ≡ [])
 Form first Whole t after = IsWhole t
 Form first Decimal t after = IsDecimal t
 Form first (Time u) t after = IsTime u t

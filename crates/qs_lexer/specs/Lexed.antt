@@ -11,6 +11,10 @@ use Rattle.qs_lexer.specs.declared.token.Token.{Token}
 use Rattle.qs_lexer.specs.Values.{IsLexeme, IsTooWide}
 use Rattle.qs_lexer.specs.Cut.{AreTokens, BeginsNothing, IsCut, IsLongest, Piece, first_behind_all, place_behind_all, start}
 
+-- how many bytes a source has at most
+abbrev pub longest_source : ℕ
+longest_source = 1048576
+
 -- how many tokens a source has at most
 abbrev pub most_tokens : ℕ
 most_tokens = 262144
@@ -41,17 +45,20 @@ IsClear after tail = ¬ (after ≡ []) ⊎ (tail ≡ [])
 abbrev pub Stands : Bool → List ℕ → List ℕ → Shape → List ℕ → Type 0
 Stands first rest tail shape piece = (after : List ℕ) × IsLongest first rest shape piece after × IsClear after tail
 
--- What stands behind a faultless front of a source is a fault. So many tokens are before it; `place` is where it begins.
+-- A piece is at fault: it is left open, a number past its limit, or a token past the most. So many tokens are before it; `place` is where it begins.
+abbrev pub IsPieceFault : ℕ → Span → Shape → List ℕ → LexRefusal → Type 0
+IsPieceFault count place shape piece (OpenCommentFault span) = (shape ≡ OpenComment) × (span ≡ place)
+IsPieceFault count place shape piece (OpenTextFault span) = (shape ≡ OpenText) × (span ≡ place)
+IsPieceFault count place shape piece (NumberTooWide span) = IsTooWide shape piece × (span ≡ place)
+IsPieceFault count place shape piece (TooManyTokens span) = (count ≡ most_tokens) × IsLexeme shape × ¬ (IsTooWide shape piece) × (span ≡ place)
+IsPieceFault count place shape piece _ = ⊥
+
+-- What stands behind a faultless front of a source is a fault: a byte that belongs to no character, a character that begins nothing, or a piece at fault. So many tokens are before it; `place` is where it begins.
 abbrev pub IsFaultAt : Bool → List ℕ → List ℕ → ℕ → Span → LexRefusal → Type 0
 IsFaultAt first rest tail count place (NotUtf8 span) =
     ¬ (tail ≡ []) × (((rest ≡ []) × (span ≡ place)) ⊎ ((shape : Shape) × (piece : List ℕ) × IsLongest first rest shape piece [] × (span ≡ place_behind_all place piece)))
 IsFaultAt first rest tail count place (BadChar span) = ¬ (rest ≡ []) × BeginsNothing first rest × (span ≡ place)
-IsFaultAt first rest tail count place (OpenCommentFault span) = (piece : List ℕ) × Stands first rest tail OpenComment piece × (span ≡ place)
-IsFaultAt first rest tail count place (OpenTextFault span) = (piece : List ℕ) × Stands first rest tail OpenText piece × (span ≡ place)
-IsFaultAt first rest tail count place (NumberTooWide span) = (shape : Shape) × (piece : List ℕ) × Stands first rest tail shape piece × IsTooWide shape piece × (span ≡ place)
-IsFaultAt first rest tail count place (TooManyTokens span) =
-    (count ≡ most_tokens) × (shape : Shape) × (piece : List ℕ) × Stands first rest tail shape piece × IsLexeme shape × ¬ (IsTooWide shape piece) × (span ≡ place)
-IsFaultAt first rest tail count place Memory = ⊥
+IsFaultAt first rest tail count place refusal = (shape : Shape) × (piece : List ℕ) × Stands first rest tail shape piece × IsPieceFault count place shape piece refusal
 
 -- A source's first fault: what stands before it is cut into gaps and lexemes within their limits.
 pub record HasFault (bytes : List ℕ) (refusal : LexRefusal) : Type 0 where

@@ -1,11 +1,10 @@
 -- What a piece is after some of its characters, and the longest piece that begins here: the reader's own account of its state, of which the definitions know nothing. This project's own.
 use Rattle.std.specs.Prelude.{◌≡◌, ℕ, ◌+◌, ◌<◌, ◌≤◌, List, [], ◌∷◌, ◌++◌, length, Bool, true, false, ◌&&◌, ◌||◌, not, if◌then◌else◌, nat_eq, nat_lt, Option, Some, None, is_some, slice_get}
+use Rattle.std.specs.Char.{is_ascii_digit, is_ascii_hexdigit}
 use Rattle.std.specs.List.{fold}
 use Rattle.std.specs.Str.{IsUtf8, chars}
 use Rattle.qs_values.specs.Names.{begins_word, continues_word}
 use Rattle.qs_values.specs.declared.span.Span.{Span}
-use Rattle.qs_lexer.specs.declared.refusal.LexRefusal.{LexRefusal}
-use Rattle.qs_lexer.specs.declared.refusal.LexRefusal.TheVariants.{NotUtf8, BadChar, OpenComment, OpenText, NumberTooWide, TooManyTokens, Memory}
 use Rattle.qs_lexer.specs.declared.shape.Shape.{Shape}
 use Rattle.qs_lexer.specs.declared.shape.Shape.TheVariants as shape
 use Rattle.qs_lexer.specs.declared.state.Base.{Base}
@@ -16,8 +15,8 @@ use Rattle.qs_lexer.specs.declared.token.Token.{Token}
 use Rattle.qs_lexer.specs.declared.token.TokenKind.{TokenKind}
 use Rattle.qs_lexer.specs.declared.token.Unit.{Unit as TimeUnit}
 use Rattle.qs_lexer.specs.declared.token.Unit.TheVariants.{Dt, Ns, Us, Ms, S}
-use Rattle.qs_lexer.specs.Forms.{is_blank, is_decimal_digit, is_hexadecimal_digit, is_binary_digit, is_octal_digit}
-use Rattle.qs_lexer.specs.Values.{IsLexeme, IsTooWide, KindIs}
+use Rattle.qs_lexer.specs.Forms.{is_blank, is_binary_digit, is_octal_digit}
+use Rattle.qs_lexer.specs.Values.{IsLexeme, KindIs}
 use Rattle.qs_lexer.specs.Cut.{AreTokens, IsLongest}
 use Rattle.qs_lexer.specs.Lexed.{most_tokens}
 
@@ -27,7 +26,7 @@ letter_of_pragma n = if nat_eq n 0 then 112 else (if nat_eq n 1 then 114 else (i
 
 -- whether a character is a digit of a base
 abbrev pub is_digit_of : Base → ℕ → Bool
-is_digit_of Hexadecimal c = is_hexadecimal_digit c
+is_digit_of Hexadecimal c = is_ascii_hexdigit c
 is_digit_of Binary c = is_binary_digit c
 is_digit_of Octal c = is_octal_digit c
 
@@ -105,7 +104,7 @@ at_start first c =
     else (if nat_eq c 34 then Quote
     else (if nat_eq c 48 then Zero
     else (if nat_eq c 46 then Point
-    else (if is_decimal_digit c then Digits true
+    else (if is_ascii_digit c then Digits true
     else (if is_one_sign c then One c
     else (if begins_word c then Word else Nothing)))))))))))
 
@@ -131,7 +130,7 @@ at_number c = if nat_eq c 101 || nat_eq c 69 then Letter else unit_begun c
 -- behind decimal digits and single `_` between them: more of them, a point, or what may follow a number
 abbrev pub at_digits : Bool → ℕ → State
 at_digits ended c =
-    if is_decimal_digit c then Digits true
+    if is_ascii_digit c then Digits true
     else (if not ended then Nothing else (if nat_eq c 95 then Digits false else (if nat_eq c 46 then Pointed else at_number c)))
 
 -- behind `0`: the letter of a base, or what may follow decimal digits
@@ -146,15 +145,15 @@ at_based base ended c = if is_digit_of base c then Based base true else (if ende
 
 -- behind a point and digits: more of them, or what may follow a number
 abbrev pub at_part : Bool → ℕ → State
-at_part ended c = if is_decimal_digit c then Part true else (if not ended then Nothing else (if nat_eq c 95 then Part false else at_number c))
+at_part ended c = if is_ascii_digit c then Part true else (if not ended then Nothing else (if nat_eq c 95 then Part false else at_number c))
 
 -- behind the digits of an exponent: more of them, or a unit
 abbrev pub at_exponent : Bool → ℕ → State
-at_exponent ended c = if is_decimal_digit c then Exponent true else (if not ended then Nothing else (if nat_eq c 95 then Exponent false else unit_begun c))
+at_exponent ended c = if is_ascii_digit c then Exponent true else (if not ended then Nothing else (if nat_eq c 95 then Exponent false else unit_begun c))
 
 -- a digit, which alone may follow
 abbrev pub at_digit : State → ℕ → State
-at_digit next c = if is_decimal_digit c then next else Nothing
+at_digit next c = if is_ascii_digit c then next else Nothing
 
 -- the second letter of a unit
 abbrev pub last_letter : TimeUnit → ℕ
@@ -175,7 +174,7 @@ at_numeral Zero c = at_zero c
 at_numeral (Digits ended) c = at_digits ended c
 at_numeral (Based base ended) c = at_based base ended c
 at_numeral Point c = at_digit (Part true) c
-at_numeral Pointed c = if is_decimal_digit c then Part true else at_number c
+at_numeral Pointed c = if is_ascii_digit c then Part true else at_number c
 at_numeral (Part ended) c = at_part ended c
 at_numeral Letter c = if nat_eq c 43 || nat_eq c 45 then Signed else at_digit (Exponent true) c
 at_numeral Signed c = at_digit (Exponent true) c
@@ -249,16 +248,6 @@ first_of first _ below = false
 abbrev pub GivesKind : Shape → List ℕ → Option TokenKind → Type 0
 GivesKind form t None = form ≡ shape.Gap
 GivesKind form t (Some kind) = IsLexeme form × KindIs form t kind
-
--- a piece is at fault where so many tokens are before it, or memory is wanting
-abbrev pub IsPieceFault : ℕ → Span → Shape → List ℕ → LexRefusal → Type 0
-IsPieceFault count place form t (NotUtf8 span) = ⊥
-IsPieceFault count place form t (BadChar span) = ⊥
-IsPieceFault count place form t (OpenComment span) = (form ≡ shape.OpenComment) × (span ≡ place)
-IsPieceFault count place form t (OpenText span) = (form ≡ shape.OpenText) × (span ≡ place)
-IsPieceFault count place form t (NumberTooWide span) = IsTooWide form t × (span ≡ place)
-IsPieceFault count place form t (TooManyTokens span) = (count ≡ most_tokens) × IsLexeme form × ¬ (IsTooWide form t) × (span ≡ place)
-IsPieceFault count place form t Memory = Unit {0}
 
 -- A piece adds its token to others, if it gives one, and they are within their limit.
 pub record Adds (place : Span) (form : Shape) (t : List ℕ) (before after : List Token) : Type 0 where

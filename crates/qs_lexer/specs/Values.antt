@@ -1,6 +1,7 @@
 -- The values of numbers, and the limits that they keep (OpenQASM 3.0, literals; limits and cut are this project's own).
 use Rattle.std.specs.Prelude.{◌≡◌, ℕ, pos, ◌+◌, ◌-◌, ◌*◌, ◌<◌, ◌≤◌, ◌^◌, ◌/◌, List, [], ◌∷◌, Bool, ◌||◌, not, if◌then◌else◌, nat_eq, nat_le, drop}
-use Rattle.std.specs.List.{prefix_len, take_while, fold}
+use Rattle.std.specs.Char.{is_ascii_digit, is_ascii_hexdigit}
+use Rattle.std.specs.List.{prefix_len, take_while, fold, count_by}
 use Rattle.qs_values.specs.Lowest.{IsWide}
 use Rattle.qs_values.specs.Number.{IsFrac}
 use Rattle.qs_values.specs.declared.number.Frac.{Frac}
@@ -8,7 +9,7 @@ use Rattle.qs_lexer.specs.declared.shape.Shape.{Shape}
 use Rattle.qs_lexer.specs.declared.shape.Shape.TheVariants.{Gap, OpenComment, OpenText, Word, Physical, Whole, Decimal, Time, Text, Sign}
 use Rattle.qs_lexer.specs.declared.token.TokenKind.{TokenKind}
 use Rattle.qs_lexer.specs.declared.token.TokenKind.TheVariants as kind
-use Rattle.qs_lexer.specs.Forms.{begins, is_decimal_digit, is_hexadecimal_digit}
+use Rattle.qs_lexer.specs.Forms.{begins}
 
 -- of a digit's character, its value
 abbrev pub digit_value : ℕ → ℕ
@@ -16,7 +17,7 @@ digit_value c = if nat_le c 57 then c - 48 else (if nat_le c 70 then c - 55 else
 
 -- a digit of base 16, or of a base up to 10
 abbrev pub is_digit : ℕ → ℕ → Bool
-is_digit base c = if nat_eq base 16 then is_hexadecimal_digit c else is_decimal_digit c
+is_digit base c = if nat_eq base 16 then is_ascii_hexdigit c else is_ascii_digit c
 
 -- a number with one more digit; other characters add none
 abbrev pub with_digit : ℕ → ℕ → ℕ → ℕ
@@ -43,7 +44,7 @@ whole_value (head ∷ letter ∷ ds) = based_value (head ∷ letter ∷ ds) lett
 
 -- the characters before an exponent and a unit
 abbrev pub is_mantissa : ℕ → Bool
-is_mantissa c = is_decimal_digit c || nat_eq c 95 || nat_eq c 46
+is_mantissa c = is_ascii_digit c || nat_eq c 95 || nat_eq c 46
 
 -- the front of a number, before its exponent and its unit
 abbrev pub mantissa : List ℕ → List ℕ
@@ -53,17 +54,13 @@ mantissa t = take_while is_mantissa t
 abbrev pub behind_mantissa : List ℕ → List ℕ
 behind_mantissa t = drop (prefix_len is_mantissa t) t
 
--- a count with one more character, which is a digit or not
-abbrev pub count_digit : ℕ → ℕ → ℕ
-count_digit n c = if is_decimal_digit c then n + 1 else n
-
 -- any character but the point
 abbrev pub is_no_point : ℕ → Bool
 is_no_point c = not (nat_eq c 46)
 
 -- how many digits stand behind the point
 abbrev pub places : List ℕ → ℕ
-places m = fold count_digit 0 (drop (prefix_len is_no_point m) m)
+places m = count_by is_ascii_digit (drop (prefix_len is_no_point m) m)
 
 -- the size of the exponent, 0 where there is none; a unit has no digits
 abbrev pub exponent : List ℕ → ℕ

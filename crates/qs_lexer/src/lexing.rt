@@ -1,8 +1,9 @@
-ghost use Rattle.std.specs.Prelude.{◌≡◌, ◌≤◌, ℕ, [], length, MatchResult};
+ghost use Rattle.std.specs.Prelude.{◌≡◌, ◌⊎◌, ◌≤◌, ℕ, [], length, MatchResult};
 ghost use Rattle.std.specs.Bool.{MatchBool};
 ghost use Rattle.std.specs.Str.{chars};
-ghost use Rattle.qs_lexer.specs.Lexed.{IsClear, IsReadable, LexIs, most_tokens};
-ghost use Rattle.qs_lexer.specs.Scan.{Adds, GivesKind, IsPieceFault, first_of};
+ghost use Rattle.qs_lexer.specs.declared.refusal.LexRefusal.TheVariants.{Memory as WantOfMemory};
+ghost use Rattle.qs_lexer.specs.Lexed.{IsClear, IsPieceFault, IsReadable, LexIs, longest_source, most_tokens};
+ghost use Rattle.qs_lexer.specs.Scan.{Adds, GivesKind, first_of};
 
 use crate::place::{START, place_behind_all};
 use crate::refusal::LexRefusal;
@@ -34,7 +35,7 @@ fn readable(bytes: &[u8]) -> (&str, &[u8])
 
 /// What a piece gives: nothing for a gap, the kind of a token for a lexeme, or its fault.
 fn kind_at(place: Span, shape: Shape, piece: &str) -> Result<Option<TokenKind>, LexRefusal>
-    requires { length (chars piece.now) ≤ 1048576 }
+    requires { length (chars piece.now) ≤ longest_source }
     ensures { MatchResult result (λ found. GivesKind shape (chars piece.now) found) (λ refusal. (count : ℕ) → IsPieceFault count place shape (chars piece.now) refusal) }
 {
     match shape {
@@ -56,9 +57,9 @@ fn put(
     shape: Shape,
     piece: &str,
 ) -> Result<(), LexRefusal>
-    requires short { length (chars piece.now) ≤ 1048576 }
+    requires short { length (chars piece.now) ≤ longest_source }
     requires few { length tokens.old ≤ most_tokens }
-    ensures { MatchResult result (λ _. Adds place shape (chars piece.now) tokens.old tokens.new) (λ refusal. IsPieceFault (length tokens.old) place shape (chars piece.now) refusal) }
+    ensures { MatchResult result (λ _. Adds place shape (chars piece.now) tokens.old tokens.new) (λ refusal. (refusal ≡ WantOfMemory) ⊎ IsPieceFault (length tokens.old) place shape (chars piece.now) refusal) }
 {
     let kind = match kind_at(place, shape, piece) {
         Ok(Some(kind)) => kind,
@@ -102,7 +103,7 @@ fn first_of(first: bool, shape: Shape, is_below: bool) -> bool
 /// `NumberTooWide` at a number past its limit, `TooManyTokens` at token 262,145, whichever comes
 /// first in the text; `Memory` for want of memory.
 pub fn lex(alloc: Global, bytes: &[u8]) -> Result<List<Token>, LexRefusal>
-    requires { length bytes.now ≤ 1048576 }
+    requires { length bytes.now ≤ longest_source }
     ensures { LexIs bytes.now result }
 {
     let (text, tail) = readable(bytes);

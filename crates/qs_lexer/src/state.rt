@@ -1,5 +1,6 @@
 ghost use Rattle.std.specs.Prelude.{◌≡◌, [], ◌∷◌};
-ghost use Rattle.qs_lexer.specs.Forms.{is_blank, is_decimal_digit, is_hexadecimal_digit};
+ghost use Rattle.std.specs.Char.{is_ascii_digit, is_ascii_hexdigit};
+ghost use Rattle.qs_lexer.specs.Forms.{is_blank};
 ghost use Rattle.qs_lexer.specs.Scan.{letter_of_pragma, is_digit_of, unit_begun, is_one_sign, is_two_signs, is_three_signs, ends_line, where_so, shape_before, at_start, at_slash, at_comment, at_pragma, at_number, at_digits, at_zero, at_based, at_part, at_exponent, at_digit, at_half, at_quote, at_numeral, step};
 
 use crate::shape::Shape;
@@ -91,19 +92,12 @@ fn is_blank(c: char) -> bool
     c == ' ' || c == '\t' || c == '\n' || c == '\r'
 }
 
-/// Whether a character is a decimal digit.
-pub fn is_decimal_digit(c: char) -> bool
-    ensures { result ≡ is_decimal_digit c }
-{
-    '0' <= c && c <= '9'
-}
-
 /// Whether a character is a digit of a base.
 fn is_digit_of(base: Base, c: char) -> bool
     ensures { result ≡ is_digit_of base c }
 {
     match base {
-        Base::Hexadecimal => { is_decimal_digit(c) || 'A' <= c && c <= 'F' || 'a' <= c && c <= 'f' }
+        Base::Hexadecimal => c.is_ascii_hexdigit(),
         Base::Binary => '0' <= c && c <= '1',
         Base::Octal => '0' <= c && c <= '7',
     }
@@ -230,7 +224,7 @@ fn at_start(first: bool, c: char) -> State
         '"' => State::Quote,
         '0' => State::Zero,
         '.' => State::Point,
-        _ if is_decimal_digit(c) => State::Digits(true),
+        _ if c.is_ascii_digit() => State::Digits(true),
         _ if is_one_sign(c) => State::One(c),
         _ if begins_word(c) => State::Word,
         _ => State::Nothing,
@@ -290,7 +284,7 @@ fn at_number(c: char) -> State
 fn at_digits(ended: bool, c: char) -> State
     ensures { result ≡ at_digits ended c }
 {
-    if is_decimal_digit(c) {
+    if c.is_ascii_digit() {
         State::Digits(true)
     } else if !ended {
         State::Nothing
@@ -332,7 +326,7 @@ fn at_based(base: Base, ended: bool, c: char) -> State
 fn at_part(ended: bool, c: char) -> State
     ensures { result ≡ at_part ended c }
 {
-    if is_decimal_digit(c) {
+    if c.is_ascii_digit() {
         State::Part(true)
     } else if !ended {
         State::Nothing
@@ -347,7 +341,7 @@ fn at_part(ended: bool, c: char) -> State
 fn at_exponent(ended: bool, c: char) -> State
     ensures { result ≡ at_exponent ended c }
 {
-    if is_decimal_digit(c) {
+    if c.is_ascii_digit() {
         State::Exponent(true)
     } else if !ended {
         State::Nothing
@@ -362,7 +356,7 @@ fn at_exponent(ended: bool, c: char) -> State
 fn at_digit(next: State, c: char) -> State
     ensures { result ≡ at_digit next c }
 {
-    if is_decimal_digit(c) {
+    if c.is_ascii_digit() {
         next
     } else {
         State::Nothing
@@ -400,7 +394,7 @@ fn at_numeral(state: State, c: char) -> State
         State::Digits(ended) => at_digits(ended, c),
         State::Based(base, ended) => at_based(base, ended, c),
         State::Point => at_digit(State::Part(true), c),
-        State::Pointed if is_decimal_digit(c) => State::Part(true),
+        State::Pointed if c.is_ascii_digit() => State::Part(true),
         State::Pointed => at_number(c),
         State::Part(ended) => at_part(ended, c),
         State::Letter if c == '+' || c == '-' => State::Signed,

@@ -1,11 +1,11 @@
-ghost use Rattle.std.specs.Prelude.{◌≡◌, ◌<◌, ◌≤◌, ◌-◌, ◌*◌, ◌/◌, ◌^◌, pos, drop, length, min, count_by, MatchOption, ◌&&◌, nat_lt, if◌then◌else◌};
+ghost use Rattle.std.specs.Prelude.{◌≡◌, ◌<◌, ◌≤◌, ◌*◌, ◌/◌, ◌^◌, pos, drop, length, min, count_by, MatchOption};
 ghost use Rattle.std.specs.Str.{chars};
 ghost use Rattle.qs_values.specs.Lowest.{IsWide};
-ghost use Rattle.qs_lexer.specs.Forms.{is_decimal_digit};
+ghost use Rattle.std.specs.Char.{is_ascii_digit};
+ghost use Rattle.qs_lexer.specs.Lexed.{longest_source};
 ghost use Rattle.qs_lexer.specs.Values.{IsCutOf, IsLexeme, IsTooWide, KindIs, digit_value, is_digit, with_digit, value_of, based_value, whole_value, is_mantissa, mantissa, places, exponent, has_minus, scaled};
 
 use crate::shape::Shape;
-use crate::state::is_decimal_digit;
 use crate::token::TokenKind;
 use qs_values::Frac;
 
@@ -38,7 +38,11 @@ fn digit_value(c: char) -> u32
 fn is_digit(base: u128, c: char) -> bool
     ensures { result ≡ is_digit base c }
 {
-    is_decimal_digit(c) || base == 16 && ('A' <= c && c <= 'F' || 'a' <= c && c <= 'f')
+    if base == 16 {
+        c.is_ascii_hexdigit()
+    } else {
+        c.is_ascii_digit()
+    }
 }
 
 /// A number with one more digit, cut to `most`; other characters add none.
@@ -97,7 +101,7 @@ fn whole_value(text: &str) -> u128
 fn is_mantissa(c: char) -> bool
     ensures { result ≡ is_mantissa c }
 {
-    is_decimal_digit(c) || c == '_' || c == '.'
+    c.is_ascii_digit() || c == '_' || c == '.'
 }
 
 /// The digits of a mantissa as a number, cut to `CAP`.
@@ -111,11 +115,11 @@ fn mantissa_value(text: &str) -> u128
 
 /// How many digits a mantissa has.
 fn digits(text: &str) -> usize
-    ensures { result ≡ count_by is_decimal_digit (mantissa (chars text.now)) }
+    ensures { result ≡ count_by is_ascii_digit (mantissa (chars text.now)) }
 {
     text.chars()
         .take_while(|c| is_mantissa(*c))
-        .filter(|c| is_decimal_digit(*c))
+        .filter(|c| c.is_ascii_digit())
         .count()
 }
 
@@ -126,7 +130,7 @@ fn places(text: &str) -> usize
     text.chars()
         .take_while(|c| is_mantissa(*c))
         .skip_while(|c| *c != '.')
-        .filter(|c| is_decimal_digit(*c))
+        .filter(|c| c.is_ascii_digit())
         .count()
 }
 
@@ -146,18 +150,6 @@ fn has_minus(text: &str) -> bool
     text.chars().skip_while(|c| is_mantissa(*c)).nth(1) == Some('-')
 }
 
-/// A number with one more digit, cut to `CAP`, where digits are left to be read.
-fn with_leading(so_far: (u128, u128), c: char) -> (u128, u128)
-    ensures { result ≡ (if nat_lt 0 so_far.1 && is_decimal_digit c then (min (with_digit 10 so_far.0 c) CAP, so_far.1 - 1) else so_far) }
-{
-    let (n, left) = so_far;
-    if left > 0 && is_decimal_digit(c) {
-        (with_digit(CAP, 10, n, c), left - 1)
-    } else {
-        (n, left)
-    }
-}
-
 /// The mantissa's digits but the last ones as a number, cut to `CAP`.
 fn without_last(text: &str, last: u128) -> u128
     ensures { result ≡ min (value_of 10 (mantissa (chars text.now)) / (10 ^ last)) CAP }
@@ -165,8 +157,9 @@ fn without_last(text: &str, last: u128) -> u128
     let left = (digits(text) as u128).saturating_sub(last);
     text.chars()
         .take_while(|c| is_mantissa(*c))
-        .fold((0, left), |so_far, c| with_leading(so_far, c))
-        .0
+        .filter(|c| c.is_ascii_digit())
+        .take(left as usize)
+        .fold(0, |n, c| with_digit(CAP, 10, n, c))
 }
 
 /// A number times a power of 10, cut to `CAP`.
@@ -189,7 +182,7 @@ fn shifted(text: &str, up: u128, down: u128) -> u128
 
 /// A number without its unit times 10^17, cut to a whole number and to `CAP`.
 fn scaled(text: &str) -> u128
-    requires { length (chars text.now) ≤ 1048576 }
+    requires { length (chars text.now) ≤ longest_source }
     ensures { result ≡ min (scaled (chars text.now)) CAP }
 {
     let places = places(text) as u128;
@@ -204,7 +197,7 @@ fn scaled(text: &str) -> u128
 /// A number with a point, an exponent or a unit, cut to 17 decimals; `None` where it is past its
 /// limit.
 fn cut(text: &str) -> Option<Frac>
-    requires { length (chars text.now) ≤ 1048576 }
+    requires { length (chars text.now) ≤ longest_source }
     ensures { MatchOption result (IsWide (pos (scaled (chars text.now))) (pos (10 ^ 17))) (λ f. IsCutOf (chars text.now) f) }
 {
     let value = scaled(text);
@@ -220,7 +213,7 @@ fn cut(text: &str) -> Option<Frac>
 /// What a token of this shape and text is; `None` where it is a number past its limit.
 pub fn kind_of(shape: Shape, text: &str) -> Option<TokenKind>
     requires lexeme { IsLexeme shape }
-    requires short { length (chars text.now) ≤ 1048576 }
+    requires short { length (chars text.now) ≤ longest_source }
     ensures { MatchOption result (IsTooWide shape (chars text.now)) (λ kind. KindIs shape (chars text.now) kind) }
 {
     match shape {
@@ -236,6 +229,7 @@ pub fn kind_of(shape: Shape, text: &str) -> Option<TokenKind>
         Shape::Time(unit) => Some(TokenKind::Time(cut(text)?, unit)),
         Shape::Text => Some(TokenKind::Text),
         Shape::Sign => Some(TokenKind::Sign),
-        _ => Some(TokenKind::Word),
+        Shape::Word => Some(TokenKind::Word),
+        Shape::Gap | Shape::OpenComment | Shape::OpenText => unreachable!(),
     }
 }

@@ -2,6 +2,7 @@ use Rattle.std.proofs.Common.{◌≤◌, length, true, sym, refl, arith, ap, inl
 use Rattle.std.specs.Str.{chars}
 use Rattle.std.proofs.lemmas.Str.{chars-nil}
 use Rattle.qs_lexer.specs.Cut.{IsLongest, start}
+use Rattle.qs_lexer.specs.Lexed.{longest_source}
 use Rattle.qs_lexer.specs.declared.refusal.LexRefusal.TheVariants.{NotUtf8, BadChar}
 use Rattle.qs_lexer.proofs.FaultLemmas.{all_cut, fails, piece_fails}
 use Rattle.qs_lexer.proofs.FrontLemmas.{IsFront, front_more, length_of_rest, no_front}
@@ -12,7 +13,7 @@ pub loop-rest-init : goal.loop-rest-init
 loop-rest-init c =
     let read = c.readable.ensures in
     let text = c.readable.result.0.now in
-    let short : length text ≤ 1048576 = omega (arith, ap length read.whole, length-append text c.readable.result.1.now) in
+    let short : length text ≤ longest_source = omega (arith, ap length read.whole, length-append text c.readable.result.1.now) in
     subst (IsFront text text start true) (sym c.new-tokens.ensures) (no_front text read.utf8 short)
 
 pub returns-in_default : goal.returns-in_default
