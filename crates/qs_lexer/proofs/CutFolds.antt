@@ -1,10 +1,11 @@
 -- Numbers of digits that are cut to a bound at each digit.
 use Rattle.std.proofs.Common.{◌≡◌, ℕ, ◌+◌, ◌*◌, ◌<◌, true, false, cond, inl, inr, List, [], ◌∷◌, refl, ap, ◌∙◌, arith}
 use Rattle.std.specs.Prelude.{min}
+use Rattle.std.specs.Char.{digit_value, is_digit}
 use Rattle.std.specs.List.{fold}
 use Rattle.std.proofs.Math.Nat.{le-mul_of_pos_right, min-eq_left, min-eq_right}
 use Rattle.std.proofs.lemmas.Bool.{cases_lt}
-use Rattle.qs_lexer.specs.Values.{digit_value, is_digit, with_digit, value_of}
+use Rattle.qs_lexer.specs.Values.{with_digit, value_of}
 
 -- a fold that is cut to `most` at each step, where a step on a cut number comes to the same
 cut_fold : (f : ℕ → ℕ → ℕ) (most : ℕ) → ((n c : ℕ) → min (f (min n most) c) most ≡ min (f n c) most) → (n : ℕ) (t : List ℕ) → fold (λ m c. min (f m c) most) (min n most) t ≡ min (fold f n t) most
@@ -24,7 +25,7 @@ cut_step most n base d above =
 -- one more digit of a cut number
 pub cut_digit : (base most : ℕ) → 0 < base → (n c : ℕ) → min (with_digit base (min n most) c) most ≡ min (with_digit base n c) most
 cut_digit base most above n c =
-    elim (is_digit base c) as (λ b. min (cond b (min n most * base + digit_value c) (min n most)) most ≡ min (cond b (n * base + digit_value c) n) most) [
+    elim (is_digit c base) as (λ b. min (cond b (min n most * base + digit_value c) (min n most)) most ≡ min (cond b (n * base + digit_value c) n) most) [
       | true ↦ cut_step most n base (digit_value c) above
       | false ↦ omega arith
     ]

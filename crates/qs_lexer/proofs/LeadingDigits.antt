@@ -1,19 +1,23 @@
 -- The first digits of a number: those that a division by a power of 10 leaves.
 use Rattle.std.proofs.Common.{◌≡◌, ℕ, ◌+◌, ◌-◌, ◌*◌, ◌/◌, ◌<◌, ◌≤◌, ◌^◌, Bool, true, false, cond, subst, ◌⊎◌, inl, inr, List, [], ◌∷◌, length, take, refl, ap, sym, ◌∙◌, arith, zero, suc}
-use Rattle.std.specs.Char.{is_ascii_digit}
+use Rattle.std.specs.Char.{digit_value, is_digit}
 use Rattle.std.specs.List.{filter, fold}
 use Rattle.std.proofs.Math.Nat.{div-div-eq-div-mul, div-one, zero-div, one-le-pow, lt-div-mul-add}
 use Rattle.std.proofs.lemmas.Bool.{cases_lt}
 use Rattle.std.proofs.lemmas.Nat.{pow-add, div-mul-add}
 use Rattle.std.proofs.lemmas.Bool.Decides.{nat_tests}
 use Rattle.std.proofs.lemmas.Grind.{pow_more}
-use Rattle.qs_lexer.specs.Values.{digit_value, with_digit, value_of}
+use Rattle.qs_lexer.specs.Values.{with_digit, value_of}
+
+-- whether a character is a decimal digit
+abbrev pub is_decimal : ℕ → Bool
+is_decimal c = is_digit c 10
 
 -- the digits of a text
 abbrev pub digits_of : List ℕ → List ℕ
-digits_of t = filter is_ascii_digit t
+digits_of t = filter is_decimal t
 
-digit_below : (c : ℕ) → is_ascii_digit c ≡ true → digit_value c < 10
+digit_below : (c : ℕ) → is_decimal c ≡ true → digit_value c < 10
 digit_below c h = grind (arith, nat_tests)
 
 -- one more division by 10
@@ -23,9 +27,9 @@ drop_one n d v k below e = ap (λ p. v / p) (ap (λ j. 10 ^ j) (omega arith) ∙
 -- a division by 10 for each digit drops them
 drop_digits : (n : ℕ) (t : List ℕ) → fold (with_digit 10) n t / 10 ^ length (digits_of t) ≡ n
 drop_digits n [] = div-one n
-drop_digits n (c ∷ cs) = by (is_ascii_digit c) refl (λ m. drop_digits m cs)
+drop_digits n (c ∷ cs) = by (is_decimal c) refl (λ m. drop_digits m cs)
   where
-    by : (b : Bool) → is_ascii_digit c ≡ b → ((m : ℕ) → fold (with_digit 10) m cs / 10 ^ length (digits_of cs) ≡ m) → fold (with_digit 10) (cond b (n * 10 + digit_value c) n) cs / 10 ^ length (cond b (c ∷ digits_of cs) (digits_of cs)) ≡ n
+    by : (b : Bool) → is_decimal c ≡ b → ((m : ℕ) → fold (with_digit 10) m cs / 10 ^ length (digits_of cs) ≡ m) → fold (with_digit 10) (cond b (n * 10 + digit_value c) n) cs / 10 ^ length (cond b (c ∷ digits_of cs) (digits_of cs)) ≡ n
     by true h rest = drop_one n (digit_value c) (fold (with_digit 10) (n * 10 + digit_value c) cs) (length (digits_of cs)) (digit_below c h) (rest (n * 10 + digit_value c))
     by false h rest = rest n
 
@@ -37,9 +41,9 @@ first_digits n zero t =
 first_digits n (suc left) [] =
     let none : 0 - suc left ≡ 0 = omega arith in
     sym (ap (λ k. n / 10 ^ k) none ∙ div-one n)
-first_digits n (suc left) (c ∷ cs) = by (is_ascii_digit c) refl (λ m. first_digits m left cs) (first_digits n (suc left) cs)
+first_digits n (suc left) (c ∷ cs) = by (is_decimal c) refl (λ m. first_digits m left cs) (first_digits n (suc left) cs)
   where
-    by : (b : Bool) → is_ascii_digit c ≡ b → ((m : ℕ) → fold (with_digit 10) m (take left (digits_of cs)) ≡ fold (with_digit 10) m cs / 10 ^ (length (digits_of cs) - left)) → (fold (with_digit 10) n (take (suc left) (digits_of cs)) ≡ fold (with_digit 10) n cs / 10 ^ (length (digits_of cs) - suc left)) → fold (with_digit 10) n (take (suc left) (cond b (c ∷ digits_of cs) (digits_of cs))) ≡ fold (with_digit 10) (cond b (n * 10 + digit_value c) n) cs / 10 ^ (length (cond b (c ∷ digits_of cs) (digits_of cs)) - suc left)
+    by : (b : Bool) → is_decimal c ≡ b → ((m : ℕ) → fold (with_digit 10) m (take left (digits_of cs)) ≡ fold (with_digit 10) m cs / 10 ^ (length (digits_of cs) - left)) → (fold (with_digit 10) n (take (suc left) (digits_of cs)) ≡ fold (with_digit 10) n cs / 10 ^ (length (digits_of cs) - suc left)) → fold (with_digit 10) n (take (suc left) (cond b (c ∷ digits_of cs) (digits_of cs))) ≡ fold (with_digit 10) (cond b (n * 10 + digit_value c) n) cs / 10 ^ (length (cond b (c ∷ digits_of cs) (digits_of cs)) - suc left)
     by true h some all =
         let digit : with_digit 10 n c ≡ n * 10 + digit_value c = ap (λ b. cond b (n * 10 + digit_value c) n) h in
         let less : length (c ∷ digits_of cs) - suc left ≡ length (digits_of cs) - left = omega arith in

@@ -1,5 +1,5 @@
 -- What a piece is after some of its characters, and the longest piece that begins here: the reader's own account of its state, of which the definitions know nothing. This project's own.
-use Rattle.std.specs.Prelude.{◌≡◌, ℕ, ◌+◌, ◌<◌, ◌≤◌, List, [], ◌∷◌, ◌++◌, length, Bool, true, false, ◌&&◌, ◌||◌, not, if◌then◌else◌, nat_eq, nat_lt, Option, Some, None, is_some, slice_get}
+use Rattle.std.specs.Prelude.{◌≡◌, ℕ, ◌+◌, ◌<◌, ◌≤◌, List, [], ◌∷◌, ◌++◌, length, Bool, true, false, ◌&&◌, ◌||◌, not, if◌then◌else◌, nat_eq, nat_lt, Option, Some, None, is_some, codes, get_or, slice_get}
 use Rattle.std.specs.Char.{is_ascii_digit, is_ascii_hexdigit}
 use Rattle.std.specs.List.{fold}
 use Rattle.std.specs.Str.{IsUtf8, chars}
@@ -22,7 +22,7 @@ use Rattle.qs_lexer.specs.Lexed.{most_tokens}
 
 -- a letter of `pragma` by its place
 abbrev pub letter_of_pragma : ℕ → ℕ
-letter_of_pragma n = if nat_eq n 0 then 112 else (if nat_eq n 1 then 114 else (if nat_eq n 2 then 97 else (if nat_eq n 3 then 103 else (if nat_eq n 4 then 109 else 97))))
+letter_of_pragma n = get_or (codes "pragma") n 0
 
 -- whether a character is a digit of a base
 abbrev pub is_digit_of : Base → ℕ → Bool

@@ -1,6 +1,6 @@
 -- The values of numbers, and the limits that they keep (OpenQASM 3.0, literals; limits and cut are this project's own).
-use Rattle.std.specs.Prelude.{◌≡◌, ℕ, pos, ◌+◌, ◌-◌, ◌*◌, ◌<◌, ◌≤◌, ◌^◌, ◌/◌, List, [], ◌∷◌, Bool, ◌||◌, not, if◌then◌else◌, nat_eq, nat_le, drop}
-use Rattle.std.specs.Char.{is_ascii_digit, is_ascii_hexdigit}
+use Rattle.std.specs.Prelude.{◌≡◌, ℕ, pos, ◌+◌, ◌*◌, ◌<◌, ◌≤◌, ◌^◌, ◌/◌, List, [], ◌∷◌, Bool, ◌||◌, not, if◌then◌else◌, nat_eq, drop}
+use Rattle.std.specs.Char.{digit_value, is_ascii_digit, is_digit}
 use Rattle.std.specs.List.{prefix_len, take_while, fold, count_by}
 use Rattle.qs_values.specs.Lowest.{IsWide}
 use Rattle.qs_values.specs.Number.{IsFrac}
@@ -11,17 +11,9 @@ use Rattle.qs_lexer.specs.declared.token.TokenKind.{TokenKind}
 use Rattle.qs_lexer.specs.declared.token.TokenKind.TheVariants as kind
 use Rattle.qs_lexer.specs.Forms.{begins}
 
--- of a digit's character, its value
-abbrev pub digit_value : ℕ → ℕ
-digit_value c = if nat_le c 57 then c - 48 else (if nat_le c 70 then c - 55 else c - 87)
-
--- a digit of base 16, or of a base up to 10
-abbrev pub is_digit : ℕ → ℕ → Bool
-is_digit base c = if nat_eq base 16 then is_ascii_hexdigit c else is_ascii_digit c
-
 -- a number with one more digit; other characters add none
 abbrev pub with_digit : ℕ → ℕ → ℕ → ℕ
-with_digit base n c = if is_digit base c then n * base + digit_value c else n
+with_digit base n c = if is_digit c base then n * base + digit_value c else n
 
 -- the digits of a text as a number of a base
 abbrev pub value_of : ℕ → List ℕ → ℕ

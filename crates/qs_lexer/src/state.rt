@@ -1,7 +1,7 @@
 ghost use Rattle.std.specs.Prelude.{◌≡◌, [], ◌∷◌};
 ghost use Rattle.std.specs.Char.{is_ascii_digit, is_ascii_hexdigit};
 ghost use Rattle.qs_lexer.specs.Forms.{is_blank};
-ghost use Rattle.qs_lexer.specs.Scan.{letter_of_pragma, is_digit_of, unit_begun, is_one_sign, is_two_signs, is_three_signs, ends_line, where_so, shape_before, at_start, at_slash, at_comment, at_pragma, at_number, at_digits, at_zero, at_based, at_part, at_exponent, at_digit, at_half, at_quote, at_numeral, step};
+ghost use Rattle.qs_lexer.specs.Scan.{is_digit_of, unit_begun, is_one_sign, is_two_signs, is_three_signs, ends_line, where_so, shape_before, at_start, at_slash, at_comment, at_pragma, at_number, at_digits, at_zero, at_based, at_part, at_exponent, at_digit, at_half, at_quote, at_numeral, step};
 
 use crate::shape::Shape;
 use crate::token::Unit;
@@ -71,19 +71,8 @@ pub enum State {
     Ended(Unit),
 }
 
-/// A letter of `pragma` by its place.
-fn letter_of_pragma(place: u8) -> char
-    ensures { result ≡ letter_of_pragma place }
-{
-    match place {
-        0 => 'p',
-        1 => 'r',
-        2 => 'a',
-        3 => 'g',
-        4 => 'm',
-        _ => 'a',
-    }
-}
+/// The letters that begin a pragma.
+const PRAGMA: [char; 6] = ['p', 'r', 'a', 'g', 'm', 'a'];
 
 /// Whether a character is a blank, a tab, a line feed or a carriage return.
 fn is_blank(c: char) -> bool
@@ -258,7 +247,7 @@ fn at_comment(star: bool, c: char) -> State
 fn at_pragma(hash: bool, letters: u8, c: char) -> State
     ensures { result ≡ at_pragma hash letters c }
 {
-    if letters < 6 && c == letter_of_pragma(letters) {
+    if letters < 6 && c == PRAGMA[letters as usize] {
         State::Pragma(hash, letters + 1)
     } else if continues_word(c) {
         if hash { State::Nothing } else { State::Word }

@@ -1,9 +1,9 @@
 ghost use Rattle.std.specs.Prelude.{◌≡◌, ◌<◌, ◌≤◌, ◌*◌, ◌/◌, ◌^◌, pos, drop, length, min, count_by, MatchOption};
 ghost use Rattle.std.specs.Str.{chars};
 ghost use Rattle.qs_values.specs.Lowest.{IsWide};
-ghost use Rattle.std.specs.Char.{is_ascii_digit};
+ghost use Rattle.std.specs.Char.{is_ascii_digit, is_digit};
 ghost use Rattle.qs_lexer.specs.Lexed.{longest_source};
-ghost use Rattle.qs_lexer.specs.Values.{IsCutOf, IsLexeme, IsTooWide, KindIs, digit_value, is_digit, with_digit, value_of, based_value, whole_value, is_mantissa, mantissa, places, exponent, has_minus, scaled};
+ghost use Rattle.qs_lexer.specs.Values.{IsCutOf, IsLexeme, IsTooWide, KindIs, with_digit, value_of, based_value, whole_value, is_mantissa, mantissa, places, exponent, has_minus, scaled};
 
 use crate::shape::Shape;
 use crate::token::TokenKind;
@@ -21,40 +21,18 @@ const LIMIT: u128 = 18_446_744_073_709_551_616;
 /// 10^17, of which a cut number is a whole multiple of a part.
 const SCALE: i128 = 100_000_000_000_000_000;
 
-/// The value of a digit.
-fn digit_value(c: char) -> u32
-    ensures { result ≡ digit_value c }
-{
-    if c <= '9' {
-        (c as u32).saturating_sub(48)
-    } else if c <= 'F' {
-        c as u32 - 55
-    } else {
-        (c as u32).saturating_sub(87)
-    }
-}
-
-/// Whether a character is a digit of base 16, or of a base up to 10.
-fn is_digit(base: u128, c: char) -> bool
-    ensures { result ≡ is_digit base c }
-{
-    if base == 16 {
-        c.is_ascii_hexdigit()
-    } else {
-        c.is_ascii_digit()
-    }
-}
-
 /// A number with one more digit, cut to `most`; other characters add none.
-fn with_digit(most: u128, base: u128, n: u128, c: char) -> u128
+fn with_digit(most: u128, base: u32, n: u128, c: char) -> u128
+    requires least { 2 ≤ base }
+    requires most { base ≤ 36 }
     ensures { result ≡ min (with_digit base n c) most }
 {
-    if is_digit(base, c) {
-        n.saturating_mul(base)
-            .saturating_add(digit_value(c) as u128)
-            .min(most)
-    } else {
-        n.min(most)
+    match c.to_digit(base) {
+        Some(digit) => n
+            .saturating_mul(base as u128)
+            .saturating_add(digit as u128)
+            .min(most),
+        None => n.min(most),
     }
 }
 
@@ -66,8 +44,9 @@ fn decimal_value(text: &str) -> u128
 }
 
 /// The digits behind two characters as a number of a base, cut to `LIMIT`.
-fn behind_two(base: u128, text: &str) -> u128
-    requires { 0 < base }
+fn behind_two(base: u32, text: &str) -> u128
+    requires least { 2 ≤ base }
+    requires most { base ≤ 36 }
     ensures { result ≡ min (value_of base (drop 2 (chars text.now))) LIMIT }
 {
     text.chars()
@@ -115,11 +94,11 @@ fn mantissa_value(text: &str) -> u128
 
 /// How many digits a mantissa has.
 fn digits(text: &str) -> usize
-    ensures { result ≡ count_by is_ascii_digit (mantissa (chars text.now)) }
+    ensures { result ≡ count_by (λ c. is_digit c 10) (mantissa (chars text.now)) }
 {
     text.chars()
         .take_while(|c| is_mantissa(*c))
-        .filter(|c| c.is_ascii_digit())
+        .filter(|c| c.is_digit(10))
         .count()
 }
 
@@ -157,7 +136,7 @@ fn without_last(text: &str, last: u128) -> u128
     let left = (digits(text) as u128).saturating_sub(last);
     text.chars()
         .take_while(|c| is_mantissa(*c))
-        .filter(|c| c.is_ascii_digit())
+        .filter(|c| c.is_digit(10))
         .take(left as usize)
         .fold(0, |n, c| with_digit(CAP, 10, n, c))
 }

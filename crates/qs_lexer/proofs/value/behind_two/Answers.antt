@@ -1,4 +1,4 @@
-use Rattle.std.proofs.Common.{rules, tests, ◌≡◌, ◌∙◌, ◌^◌, drop}
+use Rattle.std.proofs.Common.{rules, tests, ◌≡◌, ◌∙◌, ◌^◌, drop, arith}
 use Rattle.std.specs.Prelude.{min}
 use Rattle.std.specs.List.{fold}
 use Rattle.std.specs.Str.{chars}
@@ -13,4 +13,4 @@ pub returns : goal.returns
 returns c =
     let text = chars c.args.text.now in
     let folded : c.fold.result ≡ fold (λ n d. min (with_digit c.args.base n d) (2 ^ 64)) 0 (drop 2 text) = fold_from_yields_List _ (λ n d. min (with_digit c.args.base n d) (2 ^ 64)) 0 c.fold.result c.fold.ensures.ran (YieldsList-from_skip 2 (YieldsList-at c.skip.ensures.source (YieldsList-from_chars c.args.text.now c.utf8.text cc)) c.skip.ensures.count) (λ a x r q k. search (rules, tests)) in
-    folded ∙ cut_digits c.args.base (2 ^ 64) c.requires (drop 2 text)
+    folded ∙ cut_digits c.args.base (2 ^ 64) (omega (arith, c.requires.least)) (drop 2 text)
