@@ -36,6 +36,7 @@ way first text tail n place (Some (NotUtf8 span)) is =
       | inr piece ↦ runs_out is.0 piece.0 piece.1 piece.2 (ap (λ s. Some (NotUtf8 s)) piece.3)
     ]
 way first text tail n place (Some (BadChar span)) is = nothing is.0 is.1 (ap (λ s. Some (BadChar s)) is.2)
+way first text tail n place (Some Memory) is = absurd is
 way first text tail n place (Some refusal) is = faulty is.0 is.1 is.2 refusal is.3 refl
 
 -- at the end of the text

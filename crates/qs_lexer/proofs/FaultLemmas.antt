@@ -46,6 +46,7 @@ module _ {bytes text tail rest : List ℕ} {place : Span} {first : Bool} {tokens
   piece_fails refusal form t stands (inl memory) = subst (λ r. LexIs bytes (Err r)) (sym memory) tt
   piece_fails (NotUtf8 span) form t stands (inr fault) = absurd fault
   piece_fails (BadChar span) form t stands (inr fault) = absurd fault
+  piece_fails Memory form t stands (inr fault) = absurd fault
   piece_fails refusal form t stands (inr fault) = fails refusal (form, t, stands, fault)
 
   -- all is cut

@@ -58,6 +58,7 @@ abbrev pub IsFaultAt : Bool → List ℕ → List ℕ → ℕ → Span → LexRe
 IsFaultAt first rest tail count place (NotUtf8 span) =
     ¬ (tail ≡ []) × (((rest ≡ []) × (span ≡ place)) ⊎ ((shape : Shape) × (piece : List ℕ) × IsLongest first rest shape piece [] × (span ≡ place_behind_all place piece)))
 IsFaultAt first rest tail count place (BadChar span) = ¬ (rest ≡ []) × BeginsNothing first rest × (span ≡ place)
+IsFaultAt first rest tail count place Memory = ⊥
 IsFaultAt first rest tail count place refusal = (shape : Shape) × (piece : List ℕ) × Stands first rest tail shape piece × IsPieceFault count place shape piece refusal
 
 -- A source's first fault: what stands before it is cut into gaps and lexemes within their limits.
