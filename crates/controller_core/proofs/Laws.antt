@@ -1,16 +1,17 @@
 -- What the core stands on: a controller follows its planned acts, all of them are few, and where all have ended no pick steps.
 use Rattle.std.proofs.Common.{◌≡◌, ℕ, ◌+◌, ◌*◌, ◌<◌, ◌≤◌, length, refl, zero, suc, arith, ap, sym, ◌∙◌, subst, inl, inr, add-one}
 use Rattle.std.specs.Prelude.{slice_get}
+use Rattle.std.specs.List.{range_with_len}
 use Rattle.std.proofs.lemmas.Bool.{cases_eq}
 use Rattle.qs_values.specs.declared.tape.Tape.{Tape}
 use Rattle.plan_tree.specs.declared.plan.Plan.{Plan}
 use Rattle.plan_tree.specs.Acts.{planned_acts}
-use Rattle.plan_tree.specs.Parts.{numbers, part_of}
+use Rattle.plan_tree.specs.Parts.{part_of}
 use Rattle.plan_tree.specs.Sound.{IsSound}
 use Rattle.controller_machine.specs.declared.ctl.Want.{Want}
 use Rattle.controller_machine.specs.declared.ctl.Want.TheVariants.{Go, Ended as WantsNothing}
 use Rattle.controller_machine.specs.Ctl.{CtlState, IsOn, after_act, start_ctl, state_after, want_of}
-use Rattle.controller_machine.proofs.LawLemmas.{acts-sum}
+use Rattle.controller_machine.proofs.Sizes.{acts-sum}
 use Rattle.controller_machine.proofs.Rooms.{state-on}
 use Rattle.controller_machine.proofs.Spots.{option-cases}
 use Rattle.controller_core.specs.declared.core_state.Stepped.TheVariants.{Ended}
@@ -58,12 +59,12 @@ ended-same core k ended = elim (option-cases (slice_get core.controllers k)) [
   | inr some ↦ rw some.1 (want-ended core k some.0 (want_of (body_of core k) some.0.ctl) (rw some.1 at ended))
 ]
 
-numbers-idle : (core : CoreState) → HaveEnded core → (k n : ℕ) → k + n ≤ core.plan.controllers → count_in one_if_stepped core (numbers k n) ≡ 0
-numbers-idle core ended k zero within = refl
-numbers-idle core ended k (suc n) within =
+range-idle : (core : CoreState) → HaveEnded core → (k n : ℕ) → k + n ≤ core.plan.controllers → count_in one_if_stepped core (range_with_len k n) ≡ 0
+range-idle core ended k zero within = refl
+range-idle core ended k (suc n) within =
     let here = ended k (omega arith) in
-    omega (arith, ap one_if_stepped here, ap (λ c. count_in one_if_stepped c (numbers (k + 1) n)) (ended-same core k here), numbers-idle core ended (k + 1) n (omega arith))
+    omega (arith, ap one_if_stepped here, ap (λ c. count_in one_if_stepped c (range_with_len (k + 1) n)) (ended-same core k here), range-idle core ended (k + 1) n (omega arith))
 
 -- Where all have ended, no pick of a sweep steps.
-pub ended-idle : (core : CoreState) → HaveEnded core → count_in one_if_stepped core (numbers 0 core.plan.controllers) ≡ 0
-ended-idle core ended = numbers-idle core ended 0 core.plan.controllers (omega arith)
+pub ended-idle : (core : CoreState) → HaveEnded core → count_in one_if_stepped core (range_with_len 0 core.plan.controllers) ≡ 0
+ended-idle core ended = range-idle core ended 0 core.plan.controllers (omega arith)

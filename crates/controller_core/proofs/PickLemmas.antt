@@ -1,13 +1,14 @@
 -- What a pick does to a core, and what it keeps.
-use Rattle.std.proofs.Common.{◌≡◌, ℕ, ◌+◌, ◌<◌, ◌^◌, List, [], ◌∷◌, length, map, refl, ap, arith, sym, ◌∙◌, subst, inl, inr, get_or, zero, suc}
+use Rattle.std.proofs.Common.{◌≡◌, ℕ, ◌+◌, ◌<◌, ◌^◌, List, [], ◌∷◌, length, refl, ap, arith, sym, ◌∙◌, subst, inl, inr, get_or, zero, suc}
 use Rattle.std.specs.Prelude.{Some, slice_get, slice_set, ◌⊎◌}
 use Rattle.std.proofs.lemmas.Bool.{cases_eq}
-use Rattle.std.proofs.lemmas.List.{length-set}
+use Rattle.std.proofs.lemmas.List.{length-set, set-get_or}
+use Rattle.std.proofs.lemmas.List.FromFn.{get_or-map-range_with_len, length-map-range_with_len}
 use Rattle.std.proofs.lemmas.List.Sums.{sum-map, sum_by-set}
 use Rattle.std.proofs.lemmas.Option.{get_or_from_slice_get, slice_get_read, slice_get_within}
 use Rattle.plan_tree.specs.declared.plan.Plan.{Plan}
 use Rattle.plan_tree.specs.declared.part.Part.{Part}
-use Rattle.plan_tree.specs.Parts.{numbers, part_of, parts_of}
+use Rattle.plan_tree.specs.Parts.{part_of, parts_of}
 use Rattle.controller_machine.specs.declared.ctl.Want.{Want}
 use Rattle.controller_machine.specs.declared.ctl.Want.TheVariants.{Go, Ended as WantsNothing}
 use Rattle.controller_core.specs.declared.core_state.Stepped.{Stepped}
@@ -16,7 +17,7 @@ use Rattle.controller_core.specs.declared.core_state.Counted.{Counted}
 use Rattle.controller_machine.specs.Ctl.{IsOn, after_act, want_of}
 use Rattle.controller_core.specs.Core.{CoreState, IsLive, acts_made, answer_by, body_of, no_mail, one_if_stepped, pick, pick_answer}
 use Rattle.controller_core.specs.Reached.{IsReached}
-use Rattle.controller_machine.proofs.LawLemmas.{acts-few}
+use Rattle.controller_machine.proofs.Sizes.{acts-few}
 use Rattle.controller_core.proofs.Laws.{follows-act, on-follows}
 use Rattle.controller_machine.proofs.Spots.{option-cases}
 
@@ -30,9 +31,7 @@ get-set (x ∷ xs) (suc k) (suc j) y z h = elim (get-set xs k j y z h) [ inl p �
 
 -- a write of what stands there
 set-same : {X : Type 0} (xs : List X) (k : ℕ) (x : X) → slice_get xs k ≡ Some x → slice_set xs k x ≡ xs
-set-same [] k x h = refl
-set-same (y ∷ ys) zero x h = let e : y ≡ x = cc in ap (λ z. z ∷ ys) (sym e)
-set-same (y ∷ ys) (suc k) x h = ap (λ zs. y ∷ zs) (set-same ys k x h)
+set-same xs k x h = ap (slice_set xs k) (sym (get_or_from_slice_get xs k x x h)) ∙ set-get_or xs k x
 
 want-cases : (w : Want) → (w ≡ WantsNothing) ⊎ (w ≡ Go)
 want-cases WantsNothing = inl refl
@@ -132,23 +131,12 @@ some-steps core (suc n) = elim (some-steps core n) [
 pub live : (core : CoreState) → IsLive core
 live core = some-steps core core.plan.controllers
 
--- What stands at a number below n.
-pub get-numbers : {X : Type 0} (f : ℕ → X) (j n k : ℕ) → k < n → slice_get (map f (numbers j n)) k ≡ Some (f (j + k))
-get-numbers f j zero k h = absurd (omega arith)
-get-numbers f j (suc n) zero h = ap (λ m. Some (f m)) (omega arith)
-get-numbers f j (suc n) (suc k) h = get-numbers f (j + 1) n k (omega arith) ∙ ap (λ m. Some (f m)) (omega arith)
-
-pub length-mapped : {X : Type 0} (f : ℕ → X) (j n : ℕ) → length (map f (numbers j n)) ≡ n
-length-mapped f j zero = refl
-length-mapped f j (suc n) = ap suc (length-mapped f (j + 1) n)
-
 pub parts-long : (plan : Plan) (parts : List Part) → parts ≡ parts_of plan → length parts ≡ plan.controllers
-parts-long plan parts same = ap length same ∙ length-mapped (part_of plan) 0 plan.controllers
+parts-long plan parts same = ap length same ∙ length-map-range_with_len (part_of plan) 0 plan.controllers
 
 -- The part that was read at a controller's number is its part.
 pub part-read : (plan : Plan) (parts : List Part) (k : ℕ) (part : Part) → parts ≡ parts_of plan → k < plan.controllers → part ≡ get_or parts k part → part ≡ part_of plan k
-part-read plan parts k part same within read =
-    read ∙ get_or_from_slice_get parts k (part_of plan k) part (ap (λ ps. slice_get ps k) same ∙ get-numbers (part_of plan) 0 plan.controllers k within ∙ ap (λ m. Some (part_of plan m)) (omega arith))
+part-read plan parts k part same within read = read ∙ ap (λ ps. get_or ps k part) same ∙ get_or-map-range_with_len (part_of plan) 0 plan.controllers k k part within (omega arith)
 
 -- The controller that was read is the one of this number.
 pub counted-read : (core : CoreState) (k : ℕ) (c : Counted) → IsReached core → k < core.plan.controllers → c ≡ get_or core.controllers k c → slice_get core.controllers k ≡ Some c

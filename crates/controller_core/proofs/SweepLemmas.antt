@@ -1,12 +1,12 @@
 -- Picks one after another, in an order and in sweeps.
 use Rattle.std.proofs.Common.{◌≡◌, ℕ, ◌+◌, ◌-◌, ◌<◌, ◌≤◌, List, [], ◌∷◌, ◌++◌, length, map, refl, ap, arith, sym, ◌∙◌, subst, inl, inr, zero, suc, append_assoc, add-zero, zero-add}
 use Rattle.std.specs.Prelude.{sum, slice_get, Some}
+use Rattle.std.specs.List.{range_with_len}
 use Rattle.std.proofs.lemmas.Bool.{cases_eq}
 use Rattle.std.proofs.lemmas.List.{append-nil}
 use Rattle.std.proofs.lemmas.List.Sums.{sum_by-cons}
 use Rattle.std.proofs.lemmas.Option.{slice_get_within}
 use Rattle.plan_tree.specs.Acts.{planned_acts}
-use Rattle.plan_tree.specs.Parts.{numbers}
 use Rattle.controller_core.specs.declared.core_state.Stepped.{Stepped}
 use Rattle.controller_core.specs.declared.core_state.Stepped.TheVariants.{Stepped as Did, Ended}
 use Rattle.controller_core.specs.declared.core_state.Counted.{Counted}
@@ -80,16 +80,6 @@ pub goes-few : (old now : CoreState) (all left : List ℕ) (stepped waited : ℕ
 goes-few old now all left stepped waited goes =
     (omega (arith, goes.steps, count-most one_if_stepped stepped-most old all), omega (arith, goes.waits, count-most one_if_waited waited-most old all))
 
--- The numbers from one on, and how many there are.
-pub numbers-next : (k n : ℕ) → k < n → numbers k (n - k) ≡ k ∷ numbers (k + 1) (n - (k + 1))
-numbers-next k n h =
-    let more : n - k ≡ suc (n - (k + 1)) = omega arith in
-    rw more refl
-
-pub length-numbers : (j n : ℕ) → length (numbers j n) ≡ n
-length-numbers j zero = refl
-length-numbers j (suc n) = ap suc (length-numbers (j + 1) n)
-
 -- Picks of which none steps change nothing.
 idle-same : (core : CoreState) (ks : List ℕ) → count_in one_if_stepped core ks ≡ 0 → picks core ks ≡ core
 idle-same core [] idle = refl
@@ -98,27 +88,27 @@ idle-same core (k ∷ ks) idle =
     ap (λ c. picks c ks) same ∙ idle-same core ks (omega (arith, ap (λ c. count_in one_if_stepped c ks) same))
 
 -- A number of the next n has ended where none of them steps.
-idle-ended : (core : CoreState) (j n k : ℕ) → count_in one_if_stepped core (numbers j n) ≡ 0 → k < n → pick_answer core (j + k) ≡ Ended
+idle-ended : (core : CoreState) (j n k : ℕ) → count_in one_if_stepped core (range_with_len j n) ≡ 0 → k < n → pick_answer core (j + k) ≡ Ended
 idle-ended core j zero k idle h = absurd (omega arith)
 idle-ended core j (suc n) zero idle h = ap (pick_answer core) (omega arith) ∙ (pick-idle core j (omega arith)).1
 idle-ended core j (suc n) (suc k) idle h =
     let same = (pick-idle core j (omega arith)).0 in
-    ap (pick_answer core) (omega arith) ∙ idle-ended core (j + 1) n k (omega (arith, ap (λ c. count_in one_if_stepped c (numbers (j + 1) n)) same)) (omega arith)
+    ap (pick_answer core) (omega arith) ∙ idle-ended core (j + 1) n k (omega (arith, ap (λ c. count_in one_if_stepped c (range_with_len (j + 1) n)) same)) (omega arith)
 
 -- A sweep in which none steps shows that all have ended.
-pub idle-sweep : (core : CoreState) → count_in one_if_stepped core (numbers 0 core.plan.controllers) ≡ 0 → HaveEnded core
+pub idle-sweep : (core : CoreState) → count_in one_if_stepped core (range_with_len 0 core.plan.controllers) ≡ 0 → HaveEnded core
 idle-sweep core idle k h = ap (pick_answer core) (omega arith) ∙ idle-ended core 0 core.plan.controllers k idle h
 
-sweeps-more : (controllers n : ℕ) → sweeps_of controllers n ++ numbers 0 controllers ≡ sweeps_of controllers (suc n)
-sweeps-more controllers zero = sym (append-nil (numbers 0 controllers))
-sweeps-more controllers (suc n) = append_assoc (numbers 0 controllers) (sweeps_of controllers n) (numbers 0 controllers) ∙ ap (λ ks. numbers 0 controllers ++ ks) (sweeps-more controllers n)
+sweeps-more : (controllers n : ℕ) → sweeps_of controllers n ++ range_with_len 0 controllers ≡ sweeps_of controllers (suc n)
+sweeps-more controllers zero = sym (append-nil (range_with_len 0 controllers))
+sweeps-more controllers (suc n) = append_assoc (range_with_len 0 controllers) (sweeps_of controllers n) (range_with_len 0 controllers) ∙ ap (λ ks. range_with_len 0 controllers ++ ks) (sweeps-more controllers n)
 
 -- an order and then so many sweeps
 abbrev order_and_sweeps : List ℕ → ℕ → ℕ → List ℕ
 order_and_sweeps order controllers n = order ++ sweeps_of controllers n
 
-order-more : (order : List ℕ) (controllers n : ℕ) → order_and_sweeps order controllers n ++ numbers 0 controllers ≡ order_and_sweeps order controllers (suc n)
-order-more order controllers n = append_assoc order (sweeps_of controllers n) (numbers 0 controllers) ∙ ap (λ ks. order ++ ks) (sweeps-more controllers n)
+order-more : (order : List ℕ) (controllers n : ℕ) → order_and_sweeps order controllers n ++ range_with_len 0 controllers ≡ order_and_sweeps order controllers (suc n)
+order-more order controllers n = append_assoc order (sweeps_of controllers n) (range_with_len 0 controllers) ∙ ap (λ ks. order ++ ks) (sweeps-more controllers n)
 
 -- The order's picks and so many sweeps were made, and in each sweep one stepped.
 pub record HasRun (order : List ℕ) (old now : CoreState) (stepped waited : ℕ) : Type 0 where
@@ -153,19 +143,19 @@ run-made order old now stepped waited run = omega (arith, ap acts_made run.state
 
 -- One sweep more.
 pub run-swept : (order : List ℕ) (old now new : CoreState) (stepped waited more_stepped more_waited : ℕ) → HasRun order old now stepped waited → IsReached new → 0 < more_stepped →
-    new ≡ picks now (numbers 0 now.plan.controllers) → more_stepped ≡ count_in one_if_stepped now (numbers 0 now.plan.controllers) →
-    more_waited ≡ count_in one_if_waited now (numbers 0 now.plan.controllers) → HasRun order old new (stepped + more_stepped) (waited + more_waited)
+    new ≡ picks now (range_with_len 0 now.plan.controllers) → more_stepped ≡ count_in one_if_stepped now (range_with_len 0 now.plan.controllers) →
+    more_waited ≡ count_in one_if_waited now (range_with_len 0 now.plan.controllers) → HasRun order old new (stepped + more_stepped) (waited + more_waited)
 run-swept order old now new stepped waited more_stepped more_waited run r some state steps waits =
     let n = old.plan.controllers in
-    let same = ap (λ p. numbers 0 p.controllers) (run-plan order old now stepped waited run).0 in
+    let same = ap (λ p. range_with_len 0 p.controllers) (run-plan order old now stepped waited run).0 in
     let ks = order_and_sweeps order n run.sweeps in
     let more = order-more order n run.sweeps in
     record {
       sweeps = suc run.sweeps;
       reached = r;
-      state = state ∙ ap (picks now) same ∙ ap (λ c. picks c (numbers 0 n)) run.state ∙ sym (picks-append old ks (numbers 0 n)) ∙ ap (picks old) more;
-      steps = omega (arith, run.steps, steps, ap (count_in one_if_stepped now) same, ap (λ c. count_in one_if_stepped c (numbers 0 n)) run.state, count-append one_if_stepped old ks (numbers 0 n), ap (count_in one_if_stepped old) more);
-      waits = omega (arith, run.waits, waits, ap (count_in one_if_waited now) same, ap (λ c. count_in one_if_waited c (numbers 0 n)) run.state, count-append one_if_waited old ks (numbers 0 n), ap (count_in one_if_waited old) more);
+      state = state ∙ ap (picks now) same ∙ ap (λ c. picks c (range_with_len 0 n)) run.state ∙ sym (picks-append old ks (range_with_len 0 n)) ∙ ap (picks old) more;
+      steps = omega (arith, run.steps, steps, ap (count_in one_if_stepped now) same, ap (λ c. count_in one_if_stepped c (range_with_len 0 n)) run.state, count-append one_if_stepped old ks (range_with_len 0 n), ap (count_in one_if_stepped old) more);
+      waits = omega (arith, run.waits, waits, ap (count_in one_if_waited now) same, ap (λ c. count_in one_if_waited c (range_with_len 0 n)) run.state, count-append one_if_waited old ks (range_with_len 0 n), ap (count_in one_if_waited old) more);
       until = λ m less ended. elim (cases_eq m run.sweeps) [
         | inl last ↦ absurd (omega (arith, steps, ended-idle now (subst HaveEnded (ap (λ i. picks old (order_and_sweeps order n i)) last ∙ sym run.state) ended)))
         | inr other ↦ run.until m (omega arith) ended
@@ -175,34 +165,34 @@ run-swept order old now new stepped waited more_stepped more_waited run r some s
         run.busy,
         steps,
         ap (count_in one_if_stepped now) same,
-        ap (λ c. count_in one_if_stepped c (numbers 0 n)) (run.state ∙ picks-append old order (sweeps_of n run.sweeps)),
-        count-append one_if_stepped (picks old order) (sweeps_of n run.sweeps) (numbers 0 n),
+        ap (λ c. count_in one_if_stepped c (range_with_len 0 n)) (run.state ∙ picks-append old order (sweeps_of n run.sweeps)),
+        count-append one_if_stepped (picks old order) (sweeps_of n run.sweeps) (range_with_len 0 n),
         ap (count_in one_if_stepped (picks old order)) (sweeps-more n run.sweeps),
       );
     }
 
 -- sums over controllers, the first of them of number j
-sum-most : (f : ℕ → ℕ) (j : ℕ) (cs : List Counted) → ((k : ℕ) (c : Counted) → slice_get cs k ≡ Some c → c.acts ≤ f (j + k)) → sum (map (λ c. c.acts) cs) ≤ sum (map f (numbers j (length cs)))
+sum-most : (f : ℕ → ℕ) (j : ℕ) (cs : List Counted) → ((k : ℕ) (c : Counted) → slice_get cs k ≡ Some c → c.acts ≤ f (j + k)) → sum (map (λ c. c.acts) cs) ≤ sum (map f (range_with_len j (length cs)))
 sum-most f j [] most = omega arith
 sum-most f j (c ∷ cs) most =
     let acts : Counted → ℕ = λ d. d.acts in
     let here = most 0 c refl in
     let rest = sum-most f (j + 1) cs (λ k d e. let next : j + suc k ≡ j + 1 + k = omega arith in omega (arith, most (suc k) d e, ap f next)) in
-    omega (arith, here, rest, sum_by-cons (λ n. n) c.acts (map acts cs), sum_by-cons (λ n. n) (f j) (map f (numbers (j + 1) (length cs))), ap f (add-zero j))
+    omega (arith, here, rest, sum_by-cons (λ n. n) c.acts (map acts cs), sum_by-cons (λ n. n) (f j) (map f (range_with_len (j + 1) (length cs))), ap f (add-zero j))
 
-sum-all : (f : ℕ → ℕ) (j : ℕ) (cs : List Counted) → ((k : ℕ) (c : Counted) → slice_get cs k ≡ Some c → f (j + k) ≤ c.acts) → sum (map f (numbers j (length cs))) ≤ sum (map (λ c. c.acts) cs)
+sum-all : (f : ℕ → ℕ) (j : ℕ) (cs : List Counted) → ((k : ℕ) (c : Counted) → slice_get cs k ≡ Some c → f (j + k) ≤ c.acts) → sum (map f (range_with_len j (length cs))) ≤ sum (map (λ c. c.acts) cs)
 sum-all f j [] all = omega arith
 sum-all f j (c ∷ cs) all =
     let acts : Counted → ℕ = λ d. d.acts in
     let here = all 0 c refl in
     let rest = sum-all f (j + 1) cs (λ k d e. let next : j + suc k ≡ j + 1 + k = omega arith in omega (arith, all (suc k) d e, ap f next)) in
-    omega (arith, here, rest, sum_by-cons (λ n. n) c.acts (map acts cs), sum_by-cons (λ n. n) (f j) (map f (numbers (j + 1) (length cs))), ap f (add-zero j))
+    omega (arith, here, rest, sum_by-cons (λ n. n) c.acts (map acts cs), sum_by-cons (λ n. n) (f j) (map f (range_with_len (j + 1) (length cs))), ap f (add-zero j))
 
 -- No more acts are made than are planned.
 pub made-most : (core : CoreState) → IsReached core → acts_made core ≤ acts_planned core.plan core.tape
 made-most core r =
     let f : ℕ → ℕ = λ k. length (planned_acts core.plan core.tape k) in
-    omega (arith, sum-most f 0 core.controllers (λ k c e. omega (arith, (r.follows k c e).within, ap f (zero-add k))), ap (λ n. sum (map f (numbers 0 n))) r.controllers)
+    omega (arith, sum-most f 0 core.controllers (λ k c e. omega (arith, (r.follows k c e).within, ap f (zero-add k))), ap (λ n. sum (map f (range_with_len 0 n))) r.controllers)
 
 -- Where all have ended, all planned acts are made.
 pub made-all : (core : CoreState) → IsReached core → HaveEnded core → acts_planned core.plan core.tape ≤ acts_made core
@@ -211,7 +201,7 @@ made-all core r ended =
     omega (
       arith,
       sum-all f 0 core.controllers (λ k c e. omega (arith, (r.follows k c e).ended.0 (ended-wants core k c e (ended k (omega (arith, slice_get_within core.controllers k c e, r.controllers)))), ap f (zero-add k))),
-      ap (λ n. sum (map f (numbers 0 n))) r.controllers,
+      ap (λ n. sum (map f (range_with_len 0 n))) r.controllers,
     )
 
 -- So a run's steps are few.
@@ -229,11 +219,11 @@ run-waits order old now stepped waited run = run.waits ∙ no-waits old (order_a
 
 -- The run is over where a sweep has no step.
 pub run-over : (order : List ℕ) (old now new : CoreState) (stepped waited more : ℕ) → HasRun order old now stepped waited → more ≡ 0 →
-    new ≡ picks now (numbers 0 now.plan.controllers) → more ≡ count_in one_if_stepped now (numbers 0 now.plan.controllers) →
+    new ≡ picks now (range_with_len 0 now.plan.controllers) → more ≡ count_in one_if_stepped now (range_with_len 0 now.plan.controllers) →
     Runs order old new stepped waited × (stepped + acts_made old ≡ acts_planned old.plan old.tape)
 run-over order old now new stepped waited more run none state steps =
-    let idle : count_in one_if_stepped now (numbers 0 now.plan.controllers) ≡ 0 = sym steps ∙ none in
-    let same = state ∙ idle-same now (numbers 0 now.plan.controllers) idle in
+    let idle : count_in one_if_stepped now (range_with_len 0 now.plan.controllers) ≡ 0 = sym steps ∙ none in
+    let same = state ∙ idle-same now (range_with_len 0 now.plan.controllers) idle in
     let ended = idle-sweep now idle in
     let kept = run-plan order old now stepped waited run in (
       record {

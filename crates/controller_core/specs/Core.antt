@@ -1,9 +1,10 @@
 -- All controllers: picks, sweeps and counts. This project's own.
 use Rattle.std.specs.Prelude.{◌≡◌, ◌⊎◌, ℕ, ◌+◌, ◌*◌, ◌<◌, ◌≤◌, List, [], ◌∷◌, ◌++◌, map, sum, replicate, slice_get, slice_set, Option, Some, None, zero, suc}
+use Rattle.std.specs.List.{range_with_len}
 use Rattle.qs_values.specs.declared.tape.Tape.{Tape}
 use Rattle.plan_tree.specs.declared.plan.Plan.{Plan}
 use Rattle.plan_tree.specs.declared.part.PartStmt.{PartStmt}
-use Rattle.plan_tree.specs.Parts.{numbers, part_of}
+use Rattle.plan_tree.specs.Parts.{part_of}
 use Rattle.controller_machine.specs.declared.ctl.Want.{Want}
 use Rattle.controller_machine.specs.declared.ctl.Want.TheVariants.{Go, Ended as WantsNothing}
 use Rattle.controller_core.specs.declared.core_state.Stepped.{Stepped}
@@ -34,7 +35,7 @@ start_core plan tape mail = record {
   tape = tape;
   mail = mail;
   mailboxes = no_mail plan.controllers;
-  controllers = map (λ k. record { ctl = start_ctl plan tape k; acts = 0 }) (numbers 0 plan.controllers);
+  controllers = map (λ k. record { ctl = start_ctl plan tape k; acts = 0 }) (range_with_len 0 plan.controllers);
 }
 
 -- what a controller's part has
@@ -92,7 +93,7 @@ count_in one core (k ∷ ks) = one (pick_answer core k) + count_in one (pick cor
 -- so many sweeps over all controllers
 abbrev pub sweeps_of : ℕ → ℕ → List ℕ
 sweeps_of controllers zero = []
-sweeps_of controllers (suc n) = numbers 0 controllers ++ sweeps_of controllers n
+sweeps_of controllers (suc n) = range_with_len 0 controllers ++ sweeps_of controllers n
 
 -- No controller has an act left.
 abbrev pub HaveEnded : CoreState → Type 0

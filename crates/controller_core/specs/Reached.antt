@@ -1,9 +1,10 @@
 -- The states that picks lead to: each controller has made the first of its planned acts. This project's own.
 use Rattle.std.specs.Prelude.{◌≡◌, ◌↔◌, ℕ, ◌≤◌, length, map, sum, take, slice_get, Some}
+use Rattle.std.specs.List.{range_with_len}
 use Rattle.qs_values.specs.declared.tape.Tape.{Tape}
 use Rattle.plan_tree.specs.declared.plan.Plan.{Plan}
 use Rattle.plan_tree.specs.Acts.{planned_acts}
-use Rattle.plan_tree.specs.Parts.{numbers, part_of}
+use Rattle.plan_tree.specs.Parts.{part_of}
 use Rattle.plan_tree.specs.Sound.{IsSound, Fits}
 use Rattle.controller_machine.specs.declared.ctl.Want.TheVariants.{Ended}
 use Rattle.controller_core.specs.declared.core_state.Counted.{Counted}
@@ -32,4 +33,4 @@ pub record IsReached (core : CoreState) : Type 0 where
 
 -- how many acts the plan has, over all controllers
 abbrev pub acts_planned : Plan → Tape → ℕ
-acts_planned plan tape = sum (map (λ k. length (planned_acts plan tape k)) (numbers 0 plan.controllers))
+acts_planned plan tape = sum (map (λ k. length (planned_acts plan tape k)) (range_with_len 0 plan.controllers))

@@ -1,5 +1,6 @@
 ghost use Rattle.std.specs.Prelude.{◌≡◌, ◌+◌, ◌<◌, ◌≤◌, ◌^◌, All, IfOk, Some, length, slice_get, option_map};
-ghost use Rattle.plan_tree.specs.Parts.{numbers, parts_of};
+ghost use Rattle.std.specs.List.{range_with_len};
+ghost use Rattle.plan_tree.specs.Parts.{parts_of};
 ghost use Rattle.plan_tree.specs.Sound.{Fits, IsSound};
 ghost use Rattle.controller_machine.specs.Ctl.{IsOn, after_act, want_of};
 ghost use Rattle.controller_core.specs.Core.{IsLive, Runs, acts_made, answer_by, count_in, one_if_stepped, one_if_waited, pick, pick_answer, picks, start_core};
@@ -198,9 +199,9 @@ impl Core {
     fn sweep(&mut self, parts: &List<Part>) -> Counts
         requires reached { IsReached self.old }
         requires parts { parts.now ≡ parts_of self.old.plan }
-        ensures picks { self.new ≡ picks self.old (numbers 0 self.old.plan.controllers) }
-        ensures stepped { result.stepped ≡ count_in one_if_stepped self.old (numbers 0 self.old.plan.controllers) }
-        ensures waited { result.waited ≡ count_in one_if_waited self.old (numbers 0 self.old.plan.controllers) }
+        ensures picks { self.new ≡ picks self.old (range_with_len 0 self.old.plan.controllers) }
+        ensures stepped { result.stepped ≡ count_in one_if_stepped self.old (range_with_len 0 self.old.plan.controllers) }
+        ensures waited { result.waited ≡ count_in one_if_waited self.old (range_with_len 0 self.old.plan.controllers) }
         ensures reached { IsReached self.new }
     {
         let mut counts = Counts::none();

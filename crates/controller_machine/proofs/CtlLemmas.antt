@@ -13,7 +13,7 @@ use Rattle.plan_tree.specs.Store.{start_store}
 use Rattle.controller_machine.specs.declared.ctl.Ending.{Ending}
 use Rattle.controller_machine.specs.declared.ctl.Played.{Played}
 use Rattle.controller_machine.specs.Ctl.{CtlState, IsOn, Spot, after_act, ending_by, item_at, item_in, items_left, settled, start_ctl, ticks_of, want_by}
-use Rattle.controller_machine.proofs.LawLemmas.{on-act, on-start}
+use Rattle.controller_machine.proofs.Rooms.{act-on, start-on}
 use Rattle.controller_machine.proofs.Sizes.{all-play, items-most, items-weigh, ticks-few}
 pub use Rattle.controller_machine.proofs.Rooms.{item-near, item-room, own-event}
 
@@ -35,7 +35,7 @@ made-start plan tape k body spot store frames log ending room is_body is_spot is
 
 -- It has room and time.
 pub made-on : (plan : Plan) (tape : Tape) (k : ℕ) (body : List PartStmt) (c : CtlState) → IsSound plan → body ≡ (part_of plan k).body → c ≡ start_ctl plan tape k → IsOn body c
-made-on plan tape k body c sound is_body start = rw (start, is_body) (on-start plan tape k sound)
+made-on plan tape k body c sound is_body start = rw (start, is_body) (start-on plan tape k sound)
 
 -- What was read at a spot is the item there.
 pub found-at : (body slice : List PartStmt) (seen c : CtlState) (item : Item) → slice ≡ body → seen ≡ c → Some item ≡ item_in seen.spot.item (slice_get slice seen.spot.statement) → item_at body c.spot ≡ Some item
@@ -43,4 +43,4 @@ found-at body slice seen c item is_slice is_seen found = sym (rw (is_slice, is_s
 
 -- After its act a controller has room and time.
 pub acted-on : (body : List PartStmt) (old new : CtlState) → IsOn body old → new ≡ after_act body old → IsOn body new
-acted-on body old new on act = rw act (on-act body old on)
+acted-on body old new on act = rw act (act-on body old on)

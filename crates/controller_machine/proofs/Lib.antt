@@ -4,7 +4,6 @@ pub mod Spots
 pub mod Standing
 pub mod Sizes
 pub mod Rooms
-pub mod LawLemmas
 pub mod Timeline
 pub mod Ordered
 pub mod StoreLemmas

@@ -1,6 +1,7 @@
 -- How many items, ticks and acts a sound plan has.
-use Rattle.std.proofs.Common.{◌≡◌, ℕ, ◌+◌, ◌*◌, ◌≤◌, ◌^◌, List, [], ◌∷◌, ◌++◌, length, map, refl, ap, arith, sym, ◌∙◌, subst, suc}
+use Rattle.std.proofs.Common.{◌≡◌, ℕ, ◌+◌, ◌*◌, ◌≤◌, ◌^◌, List, [], ◌∷◌, ◌++◌, length, map, refl, ap, arith, sym, ◌∙◌, subst, zero, suc}
 use Rattle.std.specs.Prelude.{All, Bool, true, false, ◌&&◌, cond, sum, count_by, filter, nat_eq}
+use Rattle.std.specs.List.{range_with_len}
 use Rattle.std.proofs.lemmas.List.{length-append, length-map}
 use Rattle.std.proofs.lemmas.List.Elements.{All-nil, All-head, All-tail, All-append, All-map, All-filter, All-weaker}
 use Rattle.std.proofs.lemmas.List.Sums.{sum_by-cons, sum_by-append, length-filter, count_by-le-length}
@@ -19,7 +20,7 @@ use Rattle.plan_tree.specs.Deeds.{plays}
 use Rattle.plan_tree.specs.Run.{Place, Entry, Happening, Pulsed, start_frames, run_of}
 use Rattle.plan_tree.specs.Acts.{actor, acts_by, all_acts, planned_acts}
 use Rattle.plan_tree.specs.Parts.{is_own, items_of, block_or_wait, part_stmt}
-use Rattle.plan_tree.specs.Sound.{IsSoundDeed, IsSoundEvent, IsSoundStmt, weight_in, weight_of}
+use Rattle.plan_tree.specs.Sound.{IsSound, IsSoundDeed, IsSoundEvent, IsSoundStmt, weight_in, weight_of}
 use Rattle.controller_machine.specs.Ctl.{IsNear, items_left, most_in, plays_item, ticks_of}
 use Rattle.controller_machine.proofs.Entries.{entries_of, event_entries, stmt_entries, length_in, run-trace}
 use Rattle.controller_machine.proofs.Standing.{ticks-stmt}
@@ -140,3 +141,13 @@ acts-weigh plan tape k =
     let own = length-filter (λ a. nat_eq (actor a) k) (all_acts plan (run_of plan tape).trace) in
     let some = count_by-le-length (λ a. nat_eq (actor a) k) (all_acts plan (run_of plan tape).trace) in
     omega (arith, own, some, length-acts plan (run_of plan tape).trace, ap length (run-trace plan tape), entries-few (start_frames plan.frames) [] 0 0 plan.body)
+
+-- In a sound plan they are at most 2^20.
+pub acts-few : (plan : Plan) (tape : Tape) (k : ℕ) → IsSound plan → length (planned_acts plan tape k) ≤ 1048576
+acts-few plan tape k sound = omega (arith, acts-weigh plan tape k, sound.weight)
+
+-- Those of n controllers together are at most n times as many.
+pub acts-sum : (plan : Plan) (tape : Tape) (n k : ℕ) → IsSound plan → sum (map (λ k. length (planned_acts plan tape k)) (range_with_len k n)) ≤ 1048576 * n
+acts-sum plan tape zero k sound = omega arith
+acts-sum plan tape (suc n) k sound =
+    omega (arith, sum_by-cons (λ n. n) (length (planned_acts plan tape k)) (map (λ k. length (planned_acts plan tape k)) (range_with_len (k + 1) n)), acts-few plan tape k sound, acts-sum plan tape n (k + 1) sound)

@@ -1,7 +1,7 @@
 -- The timeline of a run is the logs of all controllers, in another order.
 use Rattle.std.proofs.Common.{◌≡◌, ◌≢◌, ℕ, ◌+◌, ◌<◌, ◌≤◌, List, [], ◌∷◌, ◌++◌, refl, ap, arith, ◌∙◌, subst, cond, true, false, get_or}
 use Rattle.std.specs.Prelude.{Bool, Option, Some, None, All, filter, not, nat_eq, zero, suc}
-use Rattle.std.specs.List.{flat_map, cons_option}
+use Rattle.std.specs.List.{flat_map, cons_option, range_with_len}
 use Rattle.std.specs.List.Sorted.{IsPermutation}
 use Rattle.std.proofs.lemmas.Bool.Decides.{nat_tests}
 use Rattle.std.proofs.lemmas.List.Concat.{flat_map-append}
@@ -17,7 +17,6 @@ use Rattle.plan_tree.specs.declared.plan.PlanStmt.{PlanStmt}
 use Rattle.plan_tree.specs.declared.plan.PlanStmt.TheVariants.{Block as PlanBlock}
 use Rattle.plan_tree.specs.Run.{Place, Entry, Happening, Pulsed, start_frames, run_of}
 use Rattle.plan_tree.specs.Acts.{Act, actor, acts_by, acts_in, all_acts, acts_of, planned_acts}
-use Rattle.plan_tree.specs.Parts.{numbers}
 use Rattle.plan_tree.specs.Sound.{IsSound, IsSoundEvent, IsSoundStmt}
 use Rattle.controller_machine.specs.declared.ctl.Played.{Played}
 use Rattle.controller_machine.specs.Log.{played_at, played_by, log_of, timeline_of}
@@ -64,10 +63,10 @@ others-keep k j below (a ∷ acts) = kept (nat_eq (actor a) k) refl (others-keep
     kept true here rest = let apart : nat_eq (actor a) j ≡ false = grind (arith, nat_tests) in rw apart rest
     kept false other rest = ap (λ own. cond (nat_eq (actor a) j) (a ∷ own) own) rest
 
-flat_map-others : (k : ℕ) (acts : List Act) (n j : ℕ) → k < j → flat_map (λ i. log_of (acts_of i (others k acts))) (numbers j n) ≡ flat_map (λ i. log_of (acts_of i acts)) (numbers j n)
+flat_map-others : (k : ℕ) (acts : List Act) (n j : ℕ) → k < j → flat_map (λ i. log_of (acts_of i (others k acts))) (range_with_len j n) ≡ flat_map (λ i. log_of (acts_of i acts)) (range_with_len j n)
 flat_map-others k acts zero j below = refl
 flat_map-others k acts (suc n) j below =
-    ap (λ own. log_of own ++ flat_map (λ i. log_of (acts_of i (others k acts))) (numbers (j + 1) n)) (others-keep k j below acts)
+    ap (λ own. log_of own ++ flat_map (λ i. log_of (acts_of i (others k acts))) (range_with_len (j + 1) n)) (others-keep k j below acts)
     ∙ ap (λ rest. log_of (acts_of j acts) ++ rest) (flat_map-others k acts n (j + 1) (omega arith))
 
 -- an act of n controllers from number k on
@@ -84,7 +83,7 @@ others-from k n acts all = λ i d within.
     other-from k n (get_or (others k acts) i d) (All-filter (λ a. not (nat_eq (actor a) k)) (IsFrom k (suc n)) acts all i d within) (filter_passes (λ a. not (nat_eq (actor a) k)) acts i d within)
 
 -- acts, controller by controller
-regroup : (n k : ℕ) (acts : List Act) → All (IsFrom k n) acts → IsPermutation (log_of acts) (flat_map (λ j. log_of (acts_of j acts)) (numbers k n))
+regroup : (n k : ℕ) (acts : List Act) → All (IsFrom k n) acts → IsPermutation (log_of acts) (flat_map (λ j. log_of (acts_of j acts)) (range_with_len k n))
 regroup zero k [] all = IsPermutation-refl []
 regroup zero k (a ∷ acts) all = absurd (let from = All-head (IsFrom k zero) a acts all in omega (arith, from.0, from.1))
 regroup (suc n) k acts all =
@@ -116,9 +115,9 @@ body-below plan frames here n tick (x ∷ xs) sound all =
 
 -- Each pulse of the run is in the log of one controller.
 pub timeline-logs : (plan : Plan) (tape : Tape) → IsSound plan →
-    IsPermutation (timeline_of (run_of plan tape).trace) (flat_map (λ k. log_of (planned_acts plan tape k)) (numbers 0 plan.controllers))
+    IsPermutation (timeline_of (run_of plan tape).trace) (flat_map (λ k. log_of (planned_acts plan tape k)) (range_with_len 0 plan.controllers))
 timeline-logs plan tape sound =
     let below = body-below plan (start_frames plan.frames) [] 0 0 plan.body sound sound.body in
     let all : All (IsBelow plan) (all_acts plan (run_of plan tape).trace) = All-same (IsBelow plan) _ _ (ap (all_acts plan) (run-trace plan tape)) below in
-    subst (λ xs. IsPermutation xs (flat_map (λ k. log_of (planned_acts plan tape k)) (numbers 0 plan.controllers))) (all-log plan (run_of plan tape).trace)
+    subst (λ xs. IsPermutation xs (flat_map (λ k. log_of (planned_acts plan tape k)) (range_with_len 0 plan.controllers))) (all-log plan (run_of plan tape).trace)
     (regroup plan.controllers 0 (all_acts plan (run_of plan tape).trace) all)

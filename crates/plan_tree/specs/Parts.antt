@@ -1,6 +1,7 @@
 -- What each controller has of a plan: need and keep, and the parts. This project's own.
 -- A controller keeps the events of its ports, and each statement that holds one. The hub, controller 0, reads every variable.
-use Rattle.std.specs.Prelude.{ℕ, ◌+◌, List, [], ◌∷◌, length, map, filter, replicate, slice_index, Bool, nat_eq, zero, suc}
+use Rattle.std.specs.Prelude.{ℕ, List, [], ◌∷◌, length, map, filter, replicate, slice_index, Bool, nat_eq}
+use Rattle.std.specs.List.{range_with_len}
 use Rattle.plan_tree.specs.declared.plan.Plan.{Plan}
 use Rattle.plan_tree.specs.declared.plan.Event.{Event}
 use Rattle.plan_tree.specs.declared.plan.PlanStmt.{PlanStmt}
@@ -40,11 +41,6 @@ reads_of plan k = replicate (length plan.vars) (nat_eq k 0)
 abbrev pub part_of : Plan → ℕ → Part
 part_of plan k = record { controller = k; reads = reads_of plan k; body = map (part_stmt plan k) plan.body }
 
--- n numbers from k on
-abbrev pub numbers : ℕ → ℕ → List ℕ
-numbers k zero = []
-numbers k (suc n) = k ∷ numbers (k + 1) n
-
 -- the parts, in order of controller
 abbrev pub parts_of : Plan → List Part
-parts_of plan = map (part_of plan) (numbers 0 plan.controllers)
+parts_of plan = map (part_of plan) (range_with_len 0 plan.controllers)
