@@ -1,4 +1,4 @@
-ghost use Rattle.std.specs.Prelude.{◌≡◌, ◌+◌, ◌<◌, ◌^◌, IsSome, drop, length, slice_get};
+ghost use Rattle.std.specs.Prelude.{◌≡◌, ◌+◌, ◌<◌, ◌^◌, [], ◌∷◌, IsSome, drop, length, slice_get};
 ghost use Rattle.std.specs.Option.{option_copied};
 ghost use Rattle.controller_machine.specs.Ctl.{items_left, item_in, settled, ticks_of};
 
@@ -21,19 +21,13 @@ impl Spot {
     {
         let mut spot = self;
         while let Some(stmt) = body.get(spot.statement) {
-            let ticks = match stmt {
-                PartStmt::Block(ticks, items) => {
-                    if spot.item < items.len() {
-                        return spot;
-                    }
-                    *ticks
-                }
-                PartStmt::Wait(ticks) => *ticks,
-            };
+            if spot.item(body).is_some() {
+                return spot;
+            }
             spot = Spot {
                 statement: spot.statement + 1,
                 item: 0,
-                tick: spot.tick + ticks,
+                tick: spot.tick + ticks_in(stmt),
             };
         }
         spot
@@ -51,6 +45,16 @@ impl Spot {
             }
             PartStmt::Wait(_) => None,
         }
+    }
+}
+
+/// The ticks that a statement takes.
+fn ticks_in(stmt: &PartStmt) -> u64
+    ensures { result ≡ ticks_of (stmt.now ∷ []) }
+{
+    match stmt {
+        PartStmt::Block(ticks, _) => *ticks,
+        PartStmt::Wait(ticks) => *ticks,
     }
 }
 
