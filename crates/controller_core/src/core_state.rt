@@ -22,7 +22,8 @@ pub enum Stepped {
     Ended,
 }
 
-/// How many picks of a run stepped, and how many waited.
+/// How many picks of a run stepped, and how many waited. A pick of a controller that has ended is
+/// neither.
 #[derive(Clone, Copy, Debug, PartialEq, Eq)]
 pub struct Counts {
     pub stepped: u64,
@@ -115,6 +116,10 @@ impl Model for Core {
 
 impl Core {
     /// All controllers at the start, with mailboxes for `mail` values each.
+    ///
+    /// # Errors
+    ///
+    /// `Memory` for want of memory.
     pub fn new(
         alloc: Global,
         parts: &List<Part>,
@@ -159,7 +164,8 @@ impl Core {
         counted.pick(part)
     }
 
-    /// The picks of an order, and then sweeps over all controllers until each has ended.
+    /// The picks of an order, and then sweeps over all controllers until each has ended. The counts
+    /// are those of all these picks.
     pub fn run_order(&mut self, parts: &List<Part>, order: &[u8]) -> Counts
         requires reached { IsReached self.old }
         requires parts { parts.now ≡ parts_of self.old.plan }

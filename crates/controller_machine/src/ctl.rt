@@ -26,7 +26,9 @@ pub struct Played {
 /// How a controller's run has ended, if it has.
 #[derive(Clone, Copy, Debug, PartialEq, Eq)]
 pub enum Ending {
+    /// It has not: an act is left.
     Going,
+    /// It has come to the end of its part.
     Done,
 }
 
@@ -64,6 +66,10 @@ impl Model for Ctl {
 
 impl Ctl {
     /// A controller at the start, with room in its log for all that it can play.
+    ///
+    /// # Errors
+    ///
+    /// `Memory` for want of memory.
     pub fn new(alloc: Global, part: &Part, plan: &Plan, tape: &Tape) -> Result<Ctl, Memory>
         requires sound { IsSound plan.now }
         requires fits { Fits plan.now tape.now }
@@ -150,7 +156,8 @@ impl Ctl {
         self.room -= 1;
     }
 
-    /// What was played, in order of tick and port.
+    /// What was played, in the order in which it was played. That is the order of tick and then of
+    /// port where each act was one of the controller's own part of a sound plan.
     pub fn log(&self) -> &[Played]
         ensures { result.now ≡ self.now.log }
     {

@@ -8,6 +8,10 @@ use qs_values::{FrameStart, Input, Kind, Memory, Ty};
 use std::alloc::Global;
 
 /// The variables as a run begins: the inputs have their values, and every other variable is 0.
+///
+/// # Errors
+///
+/// `Memory` for want of memory.
 pub fn start_store(
     alloc: Global,
     vars: &[Ty],
@@ -49,6 +53,10 @@ fn put_bits(store: &mut Vec<u64>, first: usize, width: u8, value: u64)
 }
 
 /// The frames as a run begins.
+///
+/// # Errors
+///
+/// `Memory` for want of memory.
 pub fn start_frames(alloc: Global, frames: &[FrameStart]) -> Result<Vec<FrameState>, Memory>
     ensures { IfOk result (λ v. v.items ≡ start_frames_of frames.now) }
 {
