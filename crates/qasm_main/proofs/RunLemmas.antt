@@ -1,11 +1,11 @@
 -- A core that has ended has the logs of all planned acts, and its hub is in the run's last state.
 use Rattle.std.proofs.Common.{◌≡◌, ℕ, ◌+◌, ◌<◌, List, [], ◌∷◌, ◌++◌, length, map, take_all, ap, ap₂, ◌∙◌, refl, subst, arith, suc}
 use Rattle.std.specs.Prelude.{Some, slice_get}
+use Rattle.std.specs.List.{range_with_len}
 use Rattle.std.proofs.lemmas.Option.{slice_get_within}
 use Rattle.qs_values.specs.declared.tape.Tape.{Tape}
 use Rattle.plan_tree.specs.declared.plan.Plan.{Plan}
 use Rattle.plan_tree.specs.Acts.{planned_acts}
-use Rattle.plan_tree.specs.Parts.{numbers}
 use Rattle.controller_core.specs.declared.core_state.Counted.{Counted}
 use Rattle.controller_machine.specs.declared.ctl.Played.{Played}
 use Rattle.controller_machine.specs.Log.{log_of}
@@ -33,7 +33,7 @@ ended-log core k c reached ended at =
 
 -- logs that go by the controllers' numbers, the first of them j
 logs-by : (f : ℕ → List Played) (j : ℕ) (cs : List Counted) → ((k : ℕ) (c : Counted) → slice_get cs k ≡ Some c → c.ctl.log ≡ f (j + k))
-    → logs_of (map (λ c. c.ctl) cs) ≡ map f (numbers j (length cs))
+    → logs_of (map (λ c. c.ctl) cs) ≡ map f (range_with_len j (length cs))
 logs-by f j [] each = refl
 logs-by f j (c ∷ cs) each =
     let here : c.ctl.log ≡ f j = each 0 c refl ∙ ap f (omega arith) in
@@ -45,7 +45,7 @@ pub logs-ended : (core : CoreState) → IsReached core → HaveEnded core → lo
 logs-ended core reached ended =
     let f : ℕ → List Played = λ k. log_of (planned_acts core.plan core.tape k) in
     logs-by f 0 core.controllers (λ k c at. ended-log core k c reached ended at ∙ ap f (omega arith))
-    ∙ ap (λ n. map f (numbers 0 n)) reached.controllers
+    ∙ ap (λ n. map f (range_with_len 0 n)) reached.controllers
 
 -- the first of a list of controllers, among their states
 first-of : (cs : List Counted) (hub : CtlState) → slice_get (map (λ c. c.ctl) cs) 0 ≡ Some hub → (c : Counted) × (slice_get cs 0 ≡ Some c) × (c.ctl ≡ hub)

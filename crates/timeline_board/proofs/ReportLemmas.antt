@@ -1,6 +1,7 @@
 -- The report of merged logs of all planned acts is the undivided run's.
 use Rattle.std.proofs.Common.{◌≡◌, ℕ, List, [], refl, sym, subst}
 use Rattle.std.specs.Prelude.{All, Some, slice_get}
+use Rattle.std.specs.List.{range_with_len}
 use Rattle.std.specs.List.Sorted.{IsPermutation}
 use Rattle.std.proofs.lemmas.List.Elements.{All-get_or, All-map}
 use Rattle.std.proofs.lemmas.List.Folds.{flat_map-map}
@@ -9,7 +10,6 @@ use Rattle.std.proofs.lemmas.Option.{get_or_from_slice_get, slice_get_within}
 use Rattle.qs_values.specs.declared.tape.Tape.{Tape}
 use Rattle.plan_tree.specs.declared.plan.Plan.{Plan}
 use Rattle.plan_tree.specs.Acts.{planned_acts}
-use Rattle.plan_tree.specs.Parts.{numbers}
 use Rattle.plan_tree.specs.Run.{run_of}
 use Rattle.plan_tree.specs.Sound.{IsSound}
 use Rattle.qs_machine.specs.declared.machine.Machine.{Machine}
@@ -25,7 +25,7 @@ use Rattle.timeline_board.proofs.Merges.{merge-orders}
 
 -- What the log of all planned acts of each controller meets, all these logs meet.
 pub planned-all : (P : List Played → Type 0) (plan : Plan) (tape : Tape) → ((k : ℕ) → P (log_of (planned_acts plan tape k))) → All P (logs_planned plan tape)
-planned-all P plan tape each = All-map P (λ k. log_of (planned_acts plan tape k)) (numbers 0 plan.controllers) (λ k d within. each _)
+planned-all P plan tape each = All-map P (λ k. log_of (planned_acts plan tape k)) (range_with_len 0 plan.controllers) (λ k d within. each _)
 
 -- each of these logs stands in order
 planned-order : (plan : Plan) (tape : Tape) → IsSound plan → (k : ℕ) (log : List Played) → slice_get (logs_planned plan tape) k ≡ Some log → IsInOrder log
@@ -37,7 +37,7 @@ planned-order plan tape sound k log at =
 -- their entries are the timeline's, in another order
 planned-timeline : (plan : Plan) (tape : Tape) → IsSound plan → IsPermutation (timeline_of (run_of plan tape).trace) (all_of (logs_planned plan tape))
 planned-timeline plan tape sound =
-    subst (IsPermutation (timeline_of (run_of plan tape).trace)) (sym (flat_map-map (λ log. log) (λ k. log_of (planned_acts plan tape k)) (numbers 0 plan.controllers)))
+    subst (IsPermutation (timeline_of (run_of plan tape).trace)) (sym (flat_map-map (λ log. log) (λ k. log_of (planned_acts plan tape k)) (range_with_len 0 plan.controllers)))
     (timeline-logs plan tape sound)
 
 -- Merged, they are the timeline in order.

@@ -1,12 +1,11 @@
 -- Entries of several logs in one order: by tick and then by port number. This project's own.
 use Rattle.std.specs.Prelude.{◌≡◌, ℕ, List, [], ◌∷◌, map, slice_get, slice_set, Option, Some, None, false}
-use Rattle.std.specs.List.{flat_map}
+use Rattle.std.specs.List.{flat_map, range_with_len}
 use Rattle.std.specs.List.Sorted.{IsPermutation, IsSortedByKey}
 use Rattle.std.specs.Ordering.{is_lt}
 use Rattle.qs_values.specs.declared.tape.Tape.{Tape}
 use Rattle.plan_tree.specs.declared.plan.Plan.{Plan}
 use Rattle.plan_tree.specs.Acts.{planned_acts}
-use Rattle.plan_tree.specs.Parts.{numbers}
 use Rattle.plan_tree.specs.Sound.{start_cmp}
 use Rattle.controller_machine.specs.Ctl.{CtlState}
 use Rattle.controller_machine.specs.Log.{log_of, play_key}
@@ -18,7 +17,7 @@ logs_of states = map (λ c. c.log) states
 
 -- the logs of controllers that have made all of their planned acts
 abbrev pub logs_planned : Plan → Tape → List (List Played)
-logs_planned plan tape = map (λ k. log_of (planned_acts plan tape k)) (numbers 0 plan.controllers)
+logs_planned plan tape = map (λ k. log_of (planned_acts plan tape k)) (range_with_len 0 plan.controllers)
 
 -- an entry doesn't come before another
 abbrev pub IsNotBefore : Played → Played → Type 0
