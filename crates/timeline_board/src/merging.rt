@@ -1,5 +1,4 @@
-ghost use Rattle.std.specs.Prelude.{◌≡◌};
-ghost use Rattle.timeline_board.specs.Order.{NextIs, logs_of};
+ghost use Rattle.timeline_board.specs.Order.{NextIs};
 
 use crate::head::first_head;
 use controller_machine::{Ctls, Played};
@@ -8,8 +7,9 @@ use std::marker::Model;
 /// The entries of all logs that weren't given yet.
 #[derive(Drop)]
 pub struct Merge<'a, L: Ctls> {
-    ctls: &'a L,
-    places: [usize; 16],
+    pub(crate) ctls: &'a L,
+    /// How many entries of each log were given.
+    pub(crate) places: [usize; 16],
 }
 
 impl<'a, L: Ctls> Model for Merge<'a, L> {
@@ -25,17 +25,9 @@ impl<'a, L: Ctls> Model for Merge<'a, L> {
 }
 
 impl<'a, L: Ctls> Merge<'a, L> {
-    /// All entries are left.
-    pub fn new(ctls: &'a L) -> Merge<'a, L>
-        ensures { result ≡ logs_of (L.states ctls.now) }
-    {
-        Merge {
-            ctls,
-            places: [0; 16],
-        }
-    }
-
-    /// The entry that comes first of those that are left, by tick and then by port.
+    /// Gives, of the entries that stand first in what is left of each log, the first by tick and
+    /// then by port, which is the first of all that are left where each log has that order. `None`
+    /// exactly where nothing is left; then it stays so.
     pub fn next(&mut self) -> Option<Played>
         ensures { NextIs self.old self.new result }
     {
