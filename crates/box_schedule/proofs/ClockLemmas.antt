@@ -5,12 +5,8 @@ use Rattle.std.proofs.lemmas.Bool.Decides.{nat_tests}
 use Rattle.std.specs.List.{list_any}
 use Rattle.box_schedule.specs.declared.block.TOp.{TOp}
 use Rattle.box_schedule.specs.Clocks.{greatest}
-use Rattle.box_schedule.specs.Placement.{Begun, end_from, opened, shares, start_after}
+use Rattle.box_schedule.specs.Placement.{Begun, end_from, is_among, opened, shares, start_after}
 use Rattle.box_schedule.proofs.PlacementLemmas.{begun}
-
--- whether the qubit is among these
-abbrev pub is_among : List ℕ → ℕ → Bool
-is_among qubits q = list_any (nat_eq q) qubits
 
 -- the end of this operation, on a qubit that it has
 abbrev pub end_on : Begun → ℕ → ℕ

@@ -2,14 +2,9 @@
 use Rattle.std.proofs.Common.{◌≡◌, ℕ, zero, suc, ◌<◌, ◌≤◌, max, inl, inr, List, [], ◌∷◌, ◌++◌, length, true, Some, slice_get, slice_index, refl, ap, sym, subst, arith}
 use Rattle.std.proofs.lemmas.Bool.{cond-true, cond-false, cases_Bool}
 use Rattle.box_schedule.specs.declared.block.TOp.{TOp}
-use Rattle.box_schedule.specs.Placement.{Begun, shares, end_for, start_after, starts_behind, starts_of, end_from, IsEarliest}
+use Rattle.box_schedule.specs.Placement.{AreApart, Begun, shares, end_for, start_after, starts_behind, starts_of, end_from, IsEarliest}
 use Rattle.box_schedule.proofs.PlacementLemmas.{begun, length-starts_behind}
 use Rattle.box_schedule.proofs.EndLemmas.{end_from-le}
-
--- No operation begins before an earlier one on its qubits has ended.
-abbrev AreApart : List TOp → List ℕ → Type 0
-AreApart ops starts = (i j : ℕ) (a b : TOp) → i < j → slice_get ops i ≡ Some a → slice_get ops j ≡ Some b → shares a b ≡ true
-    → end_from (slice_index starts i) a ≤ slice_index starts j
 
 start_after-push : (earlier : List Begun) (last : Begun) (op : TOp) → start_after (earlier ++ last ∷ []) op ≡ max (start_after earlier op) (end_for op last)
 start_after-push [] last op = omega arith

@@ -5,10 +5,10 @@ use Rattle.std.proofs.lemmas.Bool.{cond-true, cond-false, cases_Bool}
 use Rattle.std.specs.Int.{saturate_unsigned}
 use Rattle.box_schedule.specs.declared.block.TOp.{TOp}
 use Rattle.box_schedule.specs.Clocks.{greatest}
-use Rattle.box_schedule.specs.Placement.{IsPlain, end_from, opened, start_after, starts_of, length_of}
+use Rattle.box_schedule.specs.Placement.{IsPlain, end_from, is_among, opened, start_after, starts_of, length_of}
 use Rattle.box_schedule.proofs.PlacementLemmas.{begun_behind, begun_behind-push, starts_behind-push, length_of-push}
 use Rattle.box_schedule.proofs.EndLemmas.{end_from-plain, saturate_natural}
-use Rattle.box_schedule.proofs.ClockLemmas.{clock_of, clock_of-begun, start_after-greatest, greatest-same, greatest-le, is_among}
+use Rattle.box_schedule.proofs.ClockLemmas.{clock_of, clock_of-begun, start_after-greatest, greatest-same, greatest-le}
 
 -- These operations are placed, and each qubit's clock is the greatest end on it.
 pub record HasPlaced (done : List TOp) (clocks : List ℕ) (latest : ℕ) (starts : List ℕ) : Type 0 where

@@ -26,9 +26,13 @@ end_from start op = natural (pos start +ℤ (opened op).length.ticks)
 abbrev pub is_negative : TOp → Bool
 is_negative op = int_lt (opened op).length.ticks (pos 0)
 
+-- whether a qubit is among these
+abbrev pub is_among : List ℕ → ℕ → Bool
+is_among qubits q = list_any (nat_eq q) qubits
+
 -- whether two operations share a qubit
 abbrev pub shares : TOp → TOp → Bool
-shares a b = list_any (λ q. list_any (nat_eq q) (opened b).qubits) (opened a).qubits
+shares a b = list_any (is_among (opened b).qubits) (opened a).qubits
 
 -- an operation, and the tick at which it begins
 pub record Begun : Type 0 where
@@ -69,10 +73,14 @@ abbrev pub longest : ℕ
 longest = 2 ^ 40
 
 -- No operation begins before an earlier one on its qubits has ended.
+abbrev pub AreApart : List TOp → List ℕ → Type 0
+AreApart ops starts = (i j : ℕ) (a b : TOp) → i < j → slice_get ops i ≡ Some a → slice_get ops j ≡ Some b → shares a b ≡ true
+    → end_from (slice_index starts i) a ≤ slice_index starts j
+
+-- These are starts of the operations, one for each, that keep them apart.
 pub record IsAdmissible (ops : List TOp) (starts : List ℕ) : Type 0 where
   pub count : length starts ≡ length ops
-  pub apart : (i j : ℕ) (a b : TOp) → i < j → slice_get ops i ≡ Some a → slice_get ops j ≡ Some b → shares a b ≡ true
-      → end_from (slice_index starts i) a ≤ slice_index starts j
+  pub apart : AreApart ops starts
 
 -- No operation lasts less than 0 ticks.
 abbrev pub NoneIsNegative : List TOp → Type 0
@@ -91,7 +99,7 @@ Places ops (Err (TickOut span)) = (longest < length_of ops) × IsSomeAnd (slice_
 Places ops (Err (DelayNegative span)) = (length_of ops ≤ longest) × IsFirstNegative ops span
 Places ops (Err Memory) = Unit {0}
 
--- At each place these starts are at most those.
+-- These starts are admissible, and none is later than the one at its place in any admissible ones.
 abbrev pub IsEarliest : List TOp → List ℕ → Type 0
 IsEarliest ops starts = IsAdmissible ops starts × ((others : List ℕ) → IsAdmissible ops others → (i : ℕ) → slice_index starts i ≤ slice_index others i)
 

@@ -1,7 +1,6 @@
-ghost use Rattle.std.specs.Prelude.{◌≡◌, ℕ, ◌<◌, ◌≤◌, ◌^◌, All, length, max, MatchOption, slice_index, nat_eq, if◌then◌else◌, IfOk};
-ghost use Rattle.std.specs.List.{list_any};
+ghost use Rattle.std.specs.Prelude.{◌≡◌, ℕ, ◌<◌, ◌≤◌, ◌^◌, All, length, max, MatchOption, slice_index, if◌then◌else◌, IfOk};
 ghost use Rattle.box_schedule.specs.Clocks.{greatest};
-ghost use Rattle.box_schedule.specs.Placement.{IsEarliest, IsFirstNegative, IsPlain, NoneIsNegative, Places, length_of, starts_of};
+ghost use Rattle.box_schedule.specs.Placement.{IsEarliest, IsFirstNegative, IsPlain, NoneIsNegative, Places, is_among, length_of, starts_of};
 
 use crate::block::{Placed, TBlock, TOp};
 use crate::refusal::BoxRefusal;
@@ -20,6 +19,7 @@ const LONGEST: u64 = 1 << 40;
 ///
 /// Refused with `TickOut`, at the first operation, where the block lasts longer than 2^40 ticks, or else with
 /// `DelayNegative` at the first operation that lasts less than 0 ticks: refusals go by place, then by code.
+/// `Memory` is want of memory, which may come in place of any answer.
 pub fn schedule(alloc: Global, block: &TBlock, values: &List<u64>) -> Result<Placed, BoxRefusal>
     requires plain { All IsPlain block.now.ops }
     requires count { length block.now.ops ≤ 2 ^ 24 }
@@ -87,7 +87,7 @@ fn begin(clocks: &[u64; QUBITS], qubits: &[u8]) -> u64
 
 /// Moves the clocks of these qubits to the tick `end`, but none back.
 fn move_clocks(clocks: &mut [u64; QUBITS], qubits: &[u8], end: u64)
-    ensures { (q : ℕ) → q < QUBITS → slice_index clocks.new q ≡ (if list_any (nat_eq q) qubits.now then max end (slice_index clocks.old q) else slice_index clocks.old q) }
+    ensures { (q : ℕ) → q < QUBITS → slice_index clocks.new q ≡ (if is_among qubits.now q then max end (slice_index clocks.old q) else slice_index clocks.old q) }
 {
     for qubit in qubits {
         let clock = &mut clocks[usize::from(*qubit)];
