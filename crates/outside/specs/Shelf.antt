@@ -1,5 +1,6 @@
 -- What a shelf means, and what one call of `take` answers; this project's own.
-use Rattle.std.specs.Prelude.{◌≡◌, ℕ, ◌<◌, ◌≤◌, List, [], ◌∷◌, length, if◌then◌else◌, Result, Ok, Err, Option, Some, None}
+use Rattle.std.specs.Prelude.{◌≡◌, ℕ, ◌<◌, ◌≤◌, List, length, Result, Ok, Err, Option, Some, option_map}
+use Rattle.std.specs.List.{find}
 use Rattle.std.specs.Str.{bytes_eq}
 use Rattle.outside.specs.declared.shelf.Taken.{Taken}
 use Rattle.outside.specs.declared.shelf.Taken.TheVariants.{Whole, Longer}
@@ -20,8 +21,7 @@ pub record ShelfState : Type 0 where
 
 -- the bytes of the first file of this name
 abbrev pub bytes_of : List File → List ℕ → Option (List ℕ)
-bytes_of [] name = None
-bytes_of (f ∷ fs) name = if bytes_eq f.name name then Some f.bytes else bytes_of fs name
+bytes_of files name = option_map (λ f. f.bytes) (find (λ f. bytes_eq f.name name) files)
 
 -- These bytes are all of the file, or it has more than the limit.
 abbrev pub Reads : List ℕ → ℕ → Taken → Type 0
