@@ -6,7 +6,9 @@ use std::alloc::Global;
 /// What a file has: all its bytes, or more than were asked for.
 #[derive(Debug, Drop)]
 pub enum Taken {
+    /// All bytes of the file.
     Whole(List<u8>),
+    /// The file has more bytes than were asked for, and none of them is given.
     Longer,
 }
 
@@ -15,6 +17,7 @@ pub enum Taken {
 pub enum TakeFault {
     /// It couldn't be read.
     Failed,
+    /// Want of memory.
     Memory,
 }
 
@@ -22,7 +25,11 @@ pub enum TakeFault {
 pub trait Shelf {
     ghost state: { Self → ShelfState };
 
-    /// The bytes of a file, where there are at most `limit`.
+    /// All bytes of the file of this name, where it has at most `limit` bytes, and `Longer` where it
+    /// has more.
+    ///
+    /// `Failed` comes only where the shelf counts a fault, and the name that it keeps is then this
+    /// one. `Memory` is want of memory. But for a fault the shelf stays as it was.
     fn take(&mut self, alloc: Global, name: &str, limit: u32) -> Result<Taken, TakeFault>
         ensures { AnswersTake (state self.old) (state self.new) name.now limit result };
 }

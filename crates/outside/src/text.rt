@@ -68,7 +68,7 @@ impl TextBuffer {
         }
     }
 
-    /// Goes on with these bytes.
+    /// Goes on with these bytes. A fault of the sink is told by `finish`.
     pub fn text<K: Sink>(&mut self, sink: &mut K, text: &[u8])
         ensures { GoesOn (K.state sink.old) self.old (K.state sink.new) self.new text.now }
     {
@@ -84,7 +84,7 @@ impl TextBuffer {
         }
     }
 
-    /// Goes on with a number in decimal digits.
+    /// Goes on with a number in decimal digits, as `text` does.
     pub fn number<K: Sink>(&mut self, sink: &mut K, number: u64)
         ensures { GoesOn (K.state sink.old) self.old (K.state sink.new) self.new (decimal number) }
     {
@@ -92,7 +92,8 @@ impl TextBuffer {
         self.text(sink, digits.format(number).as_bytes());
     }
 
-    /// Ends the text: puts what waits, and tells whether all was put.
+    /// Ends the text: puts what waits, and tells whether all was put. `PutFailed` comes where the
+    /// sink counted a fault since the beginning of the text, and then a front of the text was put.
     pub fn finish<K: Sink>(self, sink: &mut K) -> Result<(), PutFailed>
         ensures { (start : SinkState) (text : List ℕ) → IsAt start (K.state sink.old) self text → PutsText start (K.state sink.new) text result }
     {

@@ -133,7 +133,8 @@ fn calibrations(alloc: Global) -> Result<Name, Memory>
 
 impl Machine {
     /// The machine that is built in: three qubits, each with a drive port that has a controller of
-    /// its own, and with an acquire port on one controller for all. A tick is 1 ns.
+    /// its own, and with an acquire port on one controller for all. A tick is 1 ns. `Memory` is want
+    /// of memory.
     pub fn builtin(alloc: Global) -> Result<Machine, Memory>
         ensures { IfOk result (λ machine. machine ≡ built_in) }
     {

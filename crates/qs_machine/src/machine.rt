@@ -14,8 +14,8 @@ pub struct Machine {
     pub controllers: List<CtlKind>,
     /// The ports. A port's number is its place in this list.
     pub ports: List<Port>,
-    /// The frames as a run begins: each one's port, its phase in 2^32-ths of a full turn, and its
-    /// frequency in Hz.
+    /// The frames as a run begins (OpenPulse grammar, frames): each one's port, its phase in
+    /// 2^32-ths of a full turn, and its frequency in Hz. A frame's number is its place in this list.
     pub frames: List<FrameStart>,
     /// The waveforms that a pulse or a capture can name.
     pub waveforms: List<Wave>,
@@ -43,7 +43,7 @@ pub enum CtlKind {
     Acquire,
 }
 
-/// A port: where pulses are played and captured.
+/// A port: where pulses are played and captured (OpenPulse grammar, ports).
 #[derive(Debug, Drop)]
 pub struct Port {
     pub name: Name,
@@ -53,7 +53,7 @@ pub struct Port {
     pub qubits: List<u8>,
 }
 
-/// A waveform, which lasts one tick for each of its samples.
+/// A waveform, which lasts one tick for each of its samples (OpenPulse grammar, waveforms).
 #[derive(Debug, Drop)]
 pub struct Wave {
     pub name: Name,
