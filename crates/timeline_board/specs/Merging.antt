@@ -17,7 +17,7 @@ pub record IsHead (lefts : List (List Played)) (n : ℕ) (h : Head) : Type 0 whe
   pub here : slice_get lefts h.log ≡ Some (h.entry ∷ rest)
   pub first : (k : ℕ) (q : Played) (left : List Played) → k < n → slice_get lefts k ≡ Some (q ∷ left) → IsNotBefore q h.entry
 
--- The entry that comes first in the logs before n, or none where they are empty.
+-- Of the first entries of the logs before n the one that comes first, or none where these logs are empty.
 abbrev pub IsFirstOf : List (List Played) → ℕ → Option Head → Type 0
 IsFirstOf lefts n None = (k : ℕ) (left : List Played) → k < n → slice_get lefts k ≡ Some left → left ≡ []
 IsFirstOf lefts n (Some h) = IsHead lefts n h

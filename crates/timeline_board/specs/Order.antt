@@ -27,7 +27,7 @@ IsNotBefore q p = is_lt (start_cmp (play_key q) (play_key p)) ≡ false
 abbrev pub IsFirst : List (List Played) → Played → Type 0
 IsFirst lefts p = (k : ℕ) (q : Played) (rest : List Played) → slice_get lefts k ≡ Some (q ∷ rest) → IsNotBefore q p
 
--- An entry is given: it stood first in a log that is left, and none comes before it.
+-- An entry is given: it stood first in what is left of a log, and no other that stands so comes before it.
 pub record Gives (old new : List (List Played)) (p : Played) : Type 0 where
   pub log : ℕ
   pub rest : List Played

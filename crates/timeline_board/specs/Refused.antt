@@ -1,6 +1,6 @@
 -- The line of a refusal, and the names of all codes. This project's own.
-use Rattle.std.specs.Prelude.{ℕ, List, [], ◌∷◌, ◌++◌, codes, decimal, Option, Some, None, if◌then◌else◌, nat_eq}
-use Rattle.std.specs.List.{flat_map}
+use Rattle.std.specs.Prelude.{ℕ, List, [], ◌∷◌, ◌++◌, codes, decimal, Option, Some, None, option_map, nat_eq}
+use Rattle.std.specs.List.{find, flat_map}
 use Rattle.qs_values.specs.declared.span.Span.{Span}
 use Rattle.qs_values.specs.declared.refusal.Refusal.{Refusal}
 
@@ -35,8 +35,7 @@ names =
 
 -- the name of a code in a list
 abbrev pub name_in : List Named → ℕ → Option (List ℕ)
-name_in [] code = None
-name_in (n ∷ ns) code = if nat_eq n.0 code then Some n.1 else name_in ns code
+name_in list code = option_map (λ n. n.1) (find (λ n. nat_eq n.0 code) list)
 
 -- the name of a code that is listed
 abbrev pub name_of : ℕ → Option (List ℕ)

@@ -15,7 +15,7 @@ pub struct Head {
     pub entry: Played,
 }
 
-/// The first entry of what is left of all logs.
+/// Of the entries that stand first in what is left of each log, the one that comes first.
 pub fn first_head<L: Ctls>(ctls: &L, places: &[usize; 16]) -> Option<Head>
     ensures first { IsFirstOf (lefts_of (logs_of (L.states ctls.now)) places.now) (length (L.states ctls.now)) result }
     ensures few { length (L.states ctls.now) < 17 }
@@ -35,7 +35,7 @@ fn left_of(log: &[Played], given: usize) -> Option<Played>
     log.get(given).copied()
 }
 
-/// The first entry of the logs up to this one, by that of the logs before it.
+/// The one that comes first of the first entries of the logs up to this one, by that of the logs before it.
 fn earlier(first: Option<Head>, log: u8, entry: Option<Played>) -> Option<Head>
     ensures { (lefts : List (List Entry)) (left : List Entry) → IsFirstOf lefts log first → slice_get lefts log ≡ Some left → entry ≡ slice_get left 0 → IsFirstOf lefts (log + 1) result }
 {

@@ -8,8 +8,8 @@ use crate::names::name_of_code;
 use outside::{PutFailed, Sink, TextBuffer};
 use qs_values::{Name, Refusal, Span};
 
-/// Writes the line of a refusal. It fails where the sink fails, and then a front of the line was
-/// put.
+/// Writes the line of a refusal whose code has a name. `PutFailed` comes where the sink counted a
+/// fault, and then a front of the line was put.
 pub fn refused<K: Sink>(refusal: &Refusal, sink: &mut K) -> Result<(), PutFailed>
     requires { IsSome (name_of refusal.now.code) }
     ensures { PutsRefusal refusal.now (K.state sink.old) (K.state sink.new) result }

@@ -16,8 +16,8 @@ use qs_machine::Machine;
 
 /// Writes the report of a run: a line for each entry of the controllers' logs, by tick and then by
 /// port where each log has this order; a line for each output, from the store of the hub, which is
-/// controller 0; and a line with the hub's tick and ending. It fails where the sink fails, and then
-/// a front of the report was put.
+/// controller 0; and a line with the hub's tick and ending. `PutFailed` comes where the sink counted
+/// a fault, and then a front of the report was put.
 pub fn report<L: Ctls, K: Sink>(
     plan: &Plan,
     machine: &Machine,
