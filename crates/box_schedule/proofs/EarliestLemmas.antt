@@ -1,5 +1,5 @@
 -- The starts of a block are admissible, and nowhere later than any admissible ones.
-use Rattle.std.proofs.Common.{◌≡◌, ℕ, zero, suc, ◌<◌, ◌≤◌, max, inl, inr, List, [], ◌∷◌, ◌++◌, length, true, Some, slice_get, slice_index, refl, ap, sym, subst, arith}
+use Rattle.std.proofs.Common.{◌≡◌, ℕ, zero, suc, ◌≤◌, max, inl, inr, List, [], ◌∷◌, ◌++◌, length, true, Some, slice_get, slice_index, refl, ap, sym, subst, arith}
 use Rattle.std.proofs.lemmas.Bool.{cond-true, cond-false, cases_Bool}
 use Rattle.box_schedule.specs.declared.block.TOp.{TOp}
 use Rattle.box_schedule.specs.Placement.{AreApart, Begun, shares, end_for, start_after, starts_behind, starts_of, end_from, IsEarliest}

@@ -30,7 +30,7 @@ impl Model for MemorySink {
 
 impl MemorySink {
     /// An empty sink with room for `room` bytes, of which one put takes at most `piece` bytes. A put
-    /// fails where no room is left. `Memory` is want of memory.
+    /// of some bytes fails where no room is left. `Memory` is want of memory.
     pub fn new(alloc: Global, room: u32, piece: u32) -> Result<MemorySink, Memory>
         requires { 0 < piece }
         ensures { IfOk result (λ s. s ≡ record { bytes = []; room = room; piece = piece; faults = 0 }) }

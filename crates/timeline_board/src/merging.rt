@@ -27,7 +27,7 @@ impl<'a, L: Ctls> Model for Merge<'a, L> {
 impl<'a, L: Ctls> Merge<'a, L> {
     /// Gives, of the entries that stand first in what is left of each log, the first by tick and
     /// then by port, which is the first of all that are left where each log has that order. `None`
-    /// exactly where nothing is left; then it stays so.
+    /// comes exactly where nothing is left.
     pub fn next(&mut self) -> Option<Played>
         ensures { NextIs self.old self.new result }
     {
