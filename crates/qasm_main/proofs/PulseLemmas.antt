@@ -1,5 +1,5 @@
 -- The pulses of statements: their bounds, and that no two on a port begin together.
-use Rattle.std.proofs.Common.{◌≡◌, ◌<◌, ◌≤◌, ◌+◌, ◌*◌, ◌++◌, ◌∷◌, [], List, ℕ, All, Bool, true, false, suc, ◌⊎◌, inl, inr, Some, length, nat_eq, refl, subst, arith, append-nil, length-append}
+use Rattle.std.proofs.Common.{◌≡◌, ◌<◌, ◌≤◌, ◌+◌, ◌*◌, ◌++◌, ◌∷◌, [], List, ℕ, All, true, false, suc, ◌⊎◌, inl, inr, Some, length, nat_eq, refl, subst, arith, append-nil, length-append}
 use Rattle.std.proofs.Math.Bool.{or-true}
 use Rattle.std.specs.Prelude.{slice_get, slice_index}
 use Rattle.std.specs.List.{IsDistinct, list_any}
@@ -11,7 +11,7 @@ use Rattle.plan_tree.specs.declared.plan.Event.{Event}
 use Rattle.plan_tree.specs.declared.plan.Deed.TheVariants.{Pulse}
 use Rattle.plan_tree.specs.Sound.{same_start}
 use Rattle.box_schedule.specs.declared.block.TOp.{TOp}
-use Rattle.box_schedule.specs.Placement.{end_from, latest_end, opened, shares}
+use Rattle.box_schedule.specs.Placement.{AreApart, end_from, is_among, latest_end, opened, shares}
 use Rattle.qasm_main.specs.declared.statement.Statement.{Statement}
 use Rattle.qasm_main.specs.declared.statement.Statement.TheVariants.{X, Cx, Delay, Barrier}
 use Rattle.qasm_main.specs.declared.statement.Sentence.{Sentence}
@@ -99,10 +99,6 @@ begin_before_end (s ∷ ss) (start ∷ starts) =
 
 -- ---- no two pulses on a port begin together
 
--- whether a qubit is among these
-abbrev is_among : List ℕ → ℕ → Bool
-is_among qubits q = list_any (nat_eq q) qubits
-
 shared : (first second : List ℕ) (q : ℕ) → is_among first q ≡ true → is_among second q ≡ true → list_any (is_among second) first ≡ true
 shared [] second q in_first in_second = absurd (cc)
 shared (p ∷ first) second q in_first in_second = elim (or_cases (nat_eq q p) (is_among first q) in_first) [
@@ -157,11 +153,6 @@ apart_by start (Cx a b) rest formed late apart =
     (apart_in_front start b w8 (start + 8) rest (omega arith) (late b (rw (same_is_among b b [] refl) (or-true (nat_eq b a)))) apart)
 apart_by start (Delay ticks q) rest formed late apart = apart
 apart_by start (Barrier qubits) rest formed late apart = apart
-
--- no operation begins before an earlier one on its qubits has ended
-abbrev pub AreApart : List TOp → List ℕ → Type 0
-AreApart ops starts = (i j : ℕ) (a b : TOp) → i < j → slice_get ops i ≡ Some a → slice_get ops j ≡ Some b → shares a b ≡ true
-    → end_from (slice_index starts i) a ≤ slice_index starts j
 
 pub pulses_apart : (ss : List Sentence) (starts : List ℕ) → All IsWellFormedSentence ss → AreApart (ops_of ss) starts → IsDistinct same_start (pulses_from ss starts)
 unfolding IsDistinct
