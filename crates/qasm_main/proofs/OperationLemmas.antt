@@ -13,7 +13,8 @@ use Rattle.qasm_main.specs.declared.statement.Statement.{Statement}
 use Rattle.qasm_main.specs.declared.statement.Statement.TheVariants.{X, Cx, Delay, Barrier}
 use Rattle.qasm_main.specs.declared.statement.Sentence.{Sentence}
 use Rattle.qasm_main.specs.Statement.{IsWellFormed, IsWellFormedSentence}
-use Rattle.qasm_main.specs.Compiled.{op_by, ops_of, tick_out_at, timed}
+use Rattle.qasm_main.specs.Refused.{tick_out_at}
+use Rattle.qasm_main.specs.Compiled.{op_by, ops_of, timed}
 
 -- ---- the fields of an operation of a statement
 

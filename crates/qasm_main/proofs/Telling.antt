@@ -1,6 +1,7 @@
 -- Which text is told, and with which status.
 use Rattle.std.proofs.Common.{◌≡◌, ℕ, List, [], ◌∷◌, ◌++◌, refl, sym, ap, ◌∙◌, subst, false}
 use Rattle.std.specs.Prelude.{IsSome, IsSomeAnd, Result, Ok, Err, slice_get}
+use Rattle.qs_values.specs.declared.span.Span.{Span}
 use Rattle.qs_values.specs.declared.refusal.Refusal.{Refusal}
 use Rattle.outside.specs.declared.sink.PutFailed.{PutFailed}
 use Rattle.outside.specs.Sink.{PutsText, SinkState, StopsIn, with_text}
@@ -9,7 +10,7 @@ use Rattle.outside.proofs.Texts.{put-none, stops-behind, stops-more, with_text-a
 use Rattle.plan_tree.specs.Run.{Outcome, Done}
 use Rattle.timeline_board.specs.Refused.{name_of, names}
 use Rattle.qasm_main.specs.declared.statement.Sentence.{Sentence}
-use Rattle.qasm_main.specs.Compiled.{tick_out_at}
+use Rattle.qasm_main.specs.Refused.{file_too_long, not_built, tick_out_at}
 use Rattle.qasm_main.specs.Answer.{Finishes, status_by}
 
 -- A text that began with an empty page stands at its end.
@@ -33,19 +34,19 @@ pub told-run : (old new : SinkState) (text : List ℕ) (status : ℕ) (run : Out
 told-run old new text status run is_done told = subst (λ ending. Finishes old new (record { status = status_by ending; text = text }) status) (sym is_done) told
 
 -- The codes that are told have names.
-pub built-named : IsSome (name_of 199)
+pub built-named : IsSome (name_of not_built)
 unfolding names
 built-named = refl
 
-pub long-named : IsSome (name_of 10)
+pub long-named : IsSome (name_of file_too_long)
 unfolding names
 long-named = refl
 
-pub tick-named : IsSome (name_of 203)
+tick-named : (place : Span) → IsSome (name_of (tick_out_at place).code)
 unfolding names
-tick-named = refl
+tick-named place = refl
 
 -- the refusal of a block that is too long has a named code
 pub first-long : (sentences : List Sentence) (refusal : Refusal) → IsSomeAnd (slice_get sentences 0) (λ s. refusal ≡ tick_out_at s.span) → IsSome (name_of refusal.code)
 first-long [] refusal is = absurd is
-first-long (s ∷ ss) refusal is = subst (λ r. IsSome (name_of r.code)) (sym is) tick-named
+first-long (s ∷ ss) refusal is = subst (λ r. IsSome (name_of r.code)) (sym is) (tick-named s.span)

@@ -18,10 +18,10 @@ use Rattle.qasm_main.specs.declared.statement.Sentence.{Sentence}
 use Rattle.qasm_main.specs.declared.top.Plain.{Plain}
 use Rattle.qasm_main.specs.Reads.{IsRefused, IsSource}
 use Rattle.qasm_main.specs.Ran.{no_tape}
-use Rattle.qasm_main.specs.Compiled.{IsPlanOf, ops_of, tick_out_at}
+use Rattle.qasm_main.specs.Compiled.{IsPlanOf, ops_of}
 use Rattle.qasm_main.specs.Words.{file_of, usage}
 use Rattle.qasm_main.specs.Report.{counts_line}
-use Rattle.qasm_main.specs.Refused.{refusal_text, too_long}
+use Rattle.qasm_main.specs.Refused.{refusal_text, tick_out_at, too_long}
 
 -- a status, and the whole text that goes with it
 pub record Told : Type 0 where

@@ -1,8 +1,7 @@
 -- The plan of a source: one block, its operations placed as early as possible. This project's own.
-use Rattle.std.specs.Prelude.{◌≡◌, ℕ, ◌<◌, ◌≤◌, pos, List, [], ◌∷◌, ◌++◌, length, map, Bool, true, false, ◌&&◌, nat_eq, slice_get, IsSomeAnd, Result, Ok, Err, Some, None}
+use Rattle.std.specs.Prelude.{◌≡◌, ℕ, ◌<◌, ◌≤◌, pos, List, [], ◌∷◌, ◌++◌, length, map, Bool, true, false, ◌&&◌, nat_eq, slice_get, IsSomeAnd, Result, Ok, Err, None}
 use Rattle.std.specs.List.Sorted.{IsPermutation, IsSortedByKey}
 use Rattle.qs_values.specs.declared.span.Span.{Span}
-use Rattle.qs_values.specs.declared.refusal.Refusal.{Refusal}
 use Rattle.qs_values.specs.declared.refusal.Halt.{Halt}
 use Rattle.qs_values.specs.declared.refusal.Halt.TheVariants.{Refused, Memory}
 use Rattle.plan_tree.specs.declared.plan.Plan.{Plan}
@@ -19,6 +18,7 @@ use Rattle.box_schedule.specs.Placement.{starts_of, length_of, longest}
 use Rattle.qasm_main.specs.declared.statement.Statement.{Statement}
 use Rattle.qasm_main.specs.declared.statement.Statement.TheVariants.{X, Cx, Delay, Barrier}
 use Rattle.qasm_main.specs.declared.statement.Sentence.{Sentence}
+use Rattle.qasm_main.specs.Refused.{tick_out_at}
 
 -- the waveforms of `x` and `cx` by their places in the machine's list, and how many ticks they last
 abbrev pub w4 : ℕ
@@ -110,14 +110,6 @@ pub record IsPlanOf (sentences : List Sentence) (plan : Plan) : Type 0 where
 -- the plan of some statements
 abbrev pub IsCompiled : Plan → Type 0
 IsCompiled plan = (sentences : List Sentence) × IsPlanOf sentences plan
-
--- the code of a block that is too long
-abbrev pub tick_out : ℕ
-tick_out = 203
-
--- the refusal of a block that is too long, at this place
-abbrev pub tick_out_at : Span → Refusal
-tick_out_at place = record { code = tick_out; span = Some place; words = [] }
 
 -- What statements are compiled to: their plan, or exactly where the block is too long its refusal at the first of them.
 abbrev pub PlanIs : List Sentence → Result Plan Halt → Type 0

@@ -10,7 +10,7 @@ use Rattle.qs_lexer.specs.declared.token.Token.{Token}
 use Rattle.qs_lexer.specs.Lexed.{HasFault, Lexes}
 use Rattle.qasm_main.specs.declared.statement.Sentence.{Sentence}
 use Rattle.qasm_main.specs.Source.{Built, NotBuilt, reading_of}
-use Rattle.qasm_main.specs.Refused.{fault_refusal, refusal_at}
+use Rattle.qasm_main.specs.Refused.{fault_refusal, not_built_at}
 
 -- A source of at most so many statements is these statements, at their places.
 pub record IsSource (most : ℕ) (bytes : List ℕ) (sentences : List Sentence) : Type 0 where
@@ -30,7 +30,7 @@ pub record IsNotBuilt (most : ℕ) (bytes : List ℕ) (refusal : Refusal) : Type
   pub lexes : Lexes bytes tokens
   pub place : Span
   pub not_built : reading_of most tokens ≡ NotBuilt place
-  pub same : refusal ≡ refusal_at place
+  pub same : refusal ≡ not_built_at place
 
 -- A source is refused: for its lexemes, and else for its statements.
 abbrev pub IsRefused : ℕ → List ℕ → Refusal → Type 0
@@ -45,7 +45,7 @@ Reads most bytes (Err Memory) = Unit {0}
 -- What its tokens are read as.
 abbrev pub ReadsTokens : ℕ → List Token → Result (List Sentence) Halt → Type 0
 ReadsTokens most tokens (Ok sentences) = reading_of most tokens ≡ Built sentences
-ReadsTokens most tokens (Err (Refused refusal)) = (place : Span) × (reading_of most tokens ≡ NotBuilt place) × (refusal ≡ refusal_at place)
+ReadsTokens most tokens (Err (Refused refusal)) = (place : Span) × (reading_of most tokens ≡ NotBuilt place) × (refusal ≡ not_built_at place)
 ReadsTokens most tokens (Err Memory) = Unit {0}
 
 -- A fault among lexemes ends a compilation with its refusal, and want of memory ends it as such.

@@ -3,14 +3,15 @@ ghost use Rattle.std.specs.List.Sorted.{IsPermutation, IsSortedByKey};
 ghost use Rattle.box_schedule.specs.Placement.{length_of, starts_of};
 ghost use Rattle.plan_tree.specs.Sound.{IsSound, start_cmp, start_key};
 ghost use Rattle.qs_machine.specs.BuiltIn.{built_in};
-ghost use Rattle.qasm_main.specs.Compiled.{IsBodyBy, PlanIs, is_left_out, op_by, ops_of, owners_of, pulse_at, pulses_by, pulses_from, tick_out_at, timed};
+ghost use Rattle.qasm_main.specs.Compiled.{IsBodyBy, PlanIs, is_left_out, op_by, ops_of, owners_of, pulse_at, pulses_by, pulses_from, timed};
 ghost use Rattle.qasm_main.specs.Statement.{IsWellFormed, IsWellFormedSentence};
 
+use crate::refusal::refusal_at;
 use crate::statement::{Sentence, Statement};
 use box_schedule::{BoxRefusal, Placed, TBlock, TOp, schedule};
 use plan_tree::{Block, Deed, Event, Plan, PlanStmt};
 use qs_machine::{Machine, Port};
-use qs_values::{Affine, FrameStart, Halt, List, Memory, Name, Refusal, Span};
+use qs_values::{Affine, FrameStart, Halt, List, Memory, Name, Span};
 use std::alloc::{AllocError, Global};
 
 /// The waveform `w4` of `x` by its place in the machine's list, and how many ticks it lasts.
@@ -22,9 +23,6 @@ const SHORT_TICKS: u64 = 4;
 const LONG_WAVE: u16 = 1;
 
 const LONG_TICKS: u64 = 8;
-
-/// The code of a block that is too long.
-const TICK_OUT: u16 = 203;
 
 /// An operation of constant length outside boxes.
 fn timed(
@@ -147,17 +145,6 @@ fn body(alloc: Global, sentences: &[Sentence], placed: &Placed) -> Result<List<P
     Ok(body)
 }
 
-/// The refusal of a block that is too long, at its first statement.
-fn tick_out(alloc: Global, span: Span) -> Refusal
-    ensures { result ≡ tick_out_at span }
-{
-    Refusal {
-        code: TICK_OUT,
-        span: Some(span),
-        words: List::new(alloc),
-    }
-}
-
 /// The frames of a machine as a run begins.
 fn frames_of(alloc: Global, frames: &[FrameStart]) -> Result<List<FrameStart>, Memory>
     ensures { IfOk result (λ all. all ≡ frames.now) }
@@ -188,7 +175,7 @@ fn owners_of(alloc: Global, ports: &[Port]) -> Result<List<u8>, Memory>
 /// The plan of statements on the built-in machine: one block of pulses at their earliest starts, or none where
 /// nothing plays and no tick passes.
 ///
-/// Refused with code 203, at the first statement, where the block lasts longer than 2^40 ticks.
+/// Refused with the code of `TickOut`, at the first statement, where the block lasts longer than 2^40 ticks.
 pub fn plan_of(alloc: Global, sentences: &[Sentence], machine: &Machine) -> Result<Plan, Halt>
     requires builtin { machine.now ≡ built_in }
     requires formed { All IsWellFormedSentence sentences.now }
@@ -199,7 +186,10 @@ pub fn plan_of(alloc: Global, sentences: &[Sentence], machine: &Machine) -> Resu
     let block = operations(alloc, sentences)?;
     let placed = match schedule(alloc, &block, &List::new(alloc)) {
         Ok(placed) => placed,
-        Err(BoxRefusal::TickOut { span }) => return Err(Halt::Refused(tick_out(alloc, span))),
+        Err(BoxRefusal::TickOut { span }) => {
+            let refusal = BoxRefusal::TickOut { span };
+            return Err(Halt::Refused(refusal_at(alloc, refusal.code(), Some(span))));
+        }
         Err(BoxRefusal::DelayNegative { .. }) => unreachable!(),
         Err(BoxRefusal::Memory) => return Err(Halt::Memory),
     };

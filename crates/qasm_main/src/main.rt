@@ -5,6 +5,7 @@
 mod compile;
 mod laws;
 mod reader;
+mod refusal;
 mod run;
 mod split;
 mod statement;

@@ -1,16 +1,16 @@
 ghost use Rattle.std.specs.Prelude.{◌≡◌, ◌<◌, ◌≤◌, All, IfOk, IfSome, length, option_map};
 ghost use Rattle.qasm_main.specs.Source.{behind, digits_behind, qubit_of, time_of, qubit_at, time_at, next_qubit_at, ended, x_at, cx_at, delay_at, qubits_behind, barrier_at, statement_by, statement_at};
 ghost use Rattle.qasm_main.specs.Statement.{IsWellFormed, IsWellFormedSentence, longest_delay};
-ghost use Rattle.qasm_main.specs.Refused.{fault_refusal, refusal_at};
 ghost use Rattle.qasm_main.specs.Reads.{HaltIs, Reads, ReadsTokens};
 
+use crate::refusal::refusal_at;
 use crate::statement::{Sentence, Statement};
 use qs_lexer::{LexRefusal, Token, lex};
-use qs_values::{Halt, List, Refusal, Span};
+use qs_values::{Halt, List, Span};
 use std::alloc::{AllocError, Global};
 
 /// The code of what is OpenQASM, but isn't built yet.
-pub const NOT_BUILT: u16 = 199;
+const NOT_BUILT: u16 = 199;
 
 /// The greatest number of ticks of a delay.
 const LONGEST_DELAY: u64 = 4294967296;
@@ -212,28 +212,13 @@ fn statement(alloc: Global, tokens: &[Token]) -> Result<Option<(Statement, &[Tok
     }
 }
 
-/// The refusal at a place where no statement that is built begins.
-fn refusal_at(alloc: Global, place: Span) -> Refusal
-    ensures { result ≡ refusal_at place }
-{
-    Refusal {
-        code: NOT_BUILT,
-        span: Some(place),
-        words: List::new(alloc),
-    }
-}
-
 /// What a fault among lexemes ends a compilation with.
 fn halt_of(alloc: Global, fault: LexRefusal) -> Halt
     ensures { HaltIs fault result }
 {
     match fault {
         LexRefusal::Memory => Halt::Memory,
-        _ => Halt::Refused(Refusal {
-            code: fault.code(),
-            span: fault.span(),
-            words: List::new(alloc),
-        }),
+        _ => Halt::Refused(refusal_at(alloc, fault.code(), fault.span())),
     }
 }
 
@@ -252,10 +237,10 @@ fn read_tokens(alloc: Global, tokens: &[Token], most: u32) -> Result<List<Senten
     let mut left = most;
     while let Some((first, _)) = rest.split_first() {
         if left == 0 {
-            return Err(Halt::Refused(refusal_at(alloc, first.span)));
+            return Err(Halt::Refused(refusal_at(alloc, NOT_BUILT, Some(first.span))));
         }
         let Some((statement, others)) = statement(alloc, rest)? else {
-            return Err(Halt::Refused(refusal_at(alloc, first.span)));
+            return Err(Halt::Refused(refusal_at(alloc, NOT_BUILT, Some(first.span))));
         };
         sentences.push(Sentence {
             span: first.span,
@@ -273,7 +258,7 @@ fn read_tokens(alloc: Global, tokens: &[Token], most: u32) -> Result<List<Senten
 /// # Errors
 ///
 /// `Halt::Refused` with the code and the place of the source's first fault among its lexemes; where
-/// it has none, with the code `NOT_BUILT` and the place of the first token that begins no such
+/// it has none, with the code of what isn't built and the place of the first token that begins no such
 /// statement, or of the statement that passes `most`. `Halt::Memory` where memory is wanting.
 pub fn read(alloc: Global, source: &[u8], most: u32) -> Result<List<Sentence>, Halt>
     requires { length source.now ≤ 1048576 }

@@ -9,7 +9,8 @@ schedule-requires-clause-plain c = rw c.in_ok-block.ensures (plain_ops c.args.se
 pub returns-in-Err-TickOut-clause-plan : goal.returns-in-Err-TickOut-clause-plan
 returns-in-Err-TickOut-clause-plan c =
     let places = rw (c.in-Err-TickOut.field-0-is, c.in_ok-block.ensures) at c.in-Err-TickOut.ensures.places in
-    (places.0, first_place c.args.sentences.now _ _ places.1 c.tick_out.ensures)
+    let told = rw c.code.ensures at c.refusal_at.ensures in
+    (places.0, first_place c.args.sentences.now _ _ places.1 told)
 
 pub unreachable-requires : goal.unreachable-requires
 unreachable-requires c =
