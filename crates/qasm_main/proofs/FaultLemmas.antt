@@ -40,7 +40,7 @@ ending-write : (ending : Ending) → status_by ending ≢ 5
 ending-write Done = λ e. absurd (omega (arith, e))
 
 source-told : (most : ℕ) (bytes : List ℕ) (old new : SinkState) (plain : Plain) → AnswersSource most bytes old new plain → TellsNoFault old new plain.status
-source-told most bytes old new plain (inl built) = elim built.answers [
+source-told most bytes old new plain (inl (sentences, source, answers)) = elim answers [
   | inl run ↦ record { told = _; finishes = run.1.told; no_read = ending-read _; no_write = ending-write _ }
   | inr long ↦ record { told = _; finishes = long.told.finishes; no_read = λ e. absurd (omega (arith, e)); no_write = λ e. absurd (omega (arith, e)) }
 ]

@@ -1,4 +1,4 @@
--- What a call of the program answers and writes, by its words and its file. This project's own.
+-- What a call of the program answers and writes, by its words and its file; the whole answer stands last. This project's own.
 use Rattle.std.specs.Prelude.{◌≡◌, ◌⊎◌, ℕ, ◌<◌, ◌≤◌, slice_get, IsSomeAnd, List, [], ◌++◌, codes, Option, Some, None}
 use Rattle.qs_values.specs.declared.span.Span.{Span}
 use Rattle.qs_values.specs.declared.refusal.Refusal.{Refusal}
@@ -68,28 +68,23 @@ pub record TellsTickOut (sentences : List Sentence) (old new : SinkState) (plain
   pub first : IsSomeAnd (slice_get sentences 0) (λ s. s.span ≡ place)
   pub told : TellsAlone old new (record { status = 1; text = refusal_text (tick_out_at place) }) plain
 
--- what statements are answered: they are run exactly where their block isn't too long
-abbrev pub AnswersBuilt : List Sentence → SinkState → SinkState → Plain → Type 0
-AnswersBuilt sentences old new plain =
+-- what statements are answered: they are run where their block isn't too long, and else its refusal is told
+abbrev pub AnswersSentences : List Sentence → SinkState → SinkState → Plain → Type 0
+AnswersSentences sentences old new plain =
     ((length_of (ops_of sentences) ≤ longest) × Steps sentences old new plain) ⊎ TellsTickOut sentences old new plain
 
--- A source of these statements is answered as they are.
-pub record AnswersSentences (most : ℕ) (bytes : List ℕ) (old new : SinkState) (plain : Plain) : Type 0 where
-  pub sentences : List Sentence
-  pub source : IsSource most bytes sentences
-  pub answers : AnswersBuilt sentences old new plain
-
 -- A source's refusal is told, and nothing was run.
-pub record AnswersRefused (most : ℕ) (bytes : List ℕ) (old new : SinkState) (plain : Plain) : Type 0 where
+pub record TellsRefusal (most : ℕ) (bytes : List ℕ) (old new : SinkState) (plain : Plain) : Type 0 where
   pub refusal : Refusal
   pub refused : IsRefused most bytes refusal
   pub told : TellsAlone old new (record { status = 1; text = refusal_text refusal }) plain
 
--- what a source is answered
+-- what a source is answered: it is statements, which are answered, or its refusal is told
 abbrev pub AnswersSource : ℕ → List ℕ → SinkState → SinkState → Plain → Type 0
-AnswersSource most bytes old new plain = AnswersSentences most bytes old new plain ⊎ AnswersRefused most bytes old new plain
+AnswersSource most bytes old new plain =
+    ((sentences : List Sentence) × IsSource most bytes sentences × AnswersSentences sentences old new plain) ⊎ TellsRefusal most bytes old new plain
 
--- what a file is answered
+-- what a file is answered: as its source, where it isn't too long
 abbrev pub AnswersFile : ℕ → List ℕ → Taken → SinkState → SinkState → Plain → Type 0
 AnswersFile most name (Whole bytes) old new plain = AnswersSource most bytes old new plain
 AnswersFile most name Longer old new plain = TellsAlone old new (record { status = 3; text = refusal_text (too_long name) }) plain
@@ -112,24 +107,16 @@ pub record AnswersTaken (most limit : ℕ) (name : List ℕ) (shelf : ShelfState
   pub takes : Takes shelf.files name limit taken
   pub answers : AnswersFile most name taken old new plain
 
--- the answer of `step F`, where the shelf didn't fail
-abbrev pub AnswersRead : ℕ → ℕ → List ℕ → ShelfState → ShelfState → SinkState → SinkState → Plain → Type 0
-AnswersRead most limit name shelf shelf' old new plain =
-    (shelf' ≡ shelf) × (WantsMemory old new plain ⊎ AnswersTaken most limit name shelf old new plain)
-
--- the answer of `step F`
+-- the answer of `step F`: the file couldn't be read, or the shelf is as it was, and memory was wanted or the file was taken
 abbrev pub AnswersStep : ℕ → ℕ → List ℕ → ShelfState → ShelfState → SinkState → SinkState → Plain → Type 0
 AnswersStep most limit name shelf shelf' old new plain =
-    ReadFails name shelf shelf' old new plain ⊎ AnswersRead most limit name shelf shelf' old new plain
+    ReadFails name shelf shelf' old new plain
+    ⊎ ((shelf' ≡ shelf) × (WantsMemory old new plain ⊎ AnswersTaken most limit name shelf old new plain))
 
--- the answer of other words
-abbrev pub AnswersUsage : ShelfState → ShelfState → SinkState → SinkState → Plain → Type 0
-AnswersUsage shelf shelf' old new plain = (shelf' ≡ shelf) × TellsAlone old new (record { status = 2; text = usage }) plain
-
--- the answer of words that name a file to step, or none
+-- the answer of words that name a file to step, or of other words, which are told the usage
 abbrev pub AnswersWords : ℕ → ℕ → Option (List ℕ) → ShelfState → ShelfState → SinkState → SinkState → Plain → Type 0
-AnswersWords most limit None shelf shelf' old new plain = AnswersUsage shelf shelf' old new plain
 AnswersWords most limit (Some name) shelf shelf' old new plain = AnswersStep most limit name shelf shelf' old new plain
+AnswersWords most limit None shelf shelf' old new plain = (shelf' ≡ shelf) × TellsAlone old new (record { status = 2; text = usage }) plain
 
 -- the answer of the program, where sources have at most so many statements and files at most so many bytes
 abbrev pub Answers : ℕ → ℕ → List (List ℕ) → ShelfState → ShelfState → SinkState → SinkState → Plain → Type 0

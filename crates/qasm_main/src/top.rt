@@ -12,7 +12,7 @@ ghost use Rattle.qasm_main.specs.Compiled.{IsCompiled, IsPlanOf};
 ghost use Rattle.qasm_main.specs.Ran.{IsRunOf, PutsRun};
 ghost use Rattle.qasm_main.specs.Report.{counts_line};
 ghost use Rattle.qasm_main.specs.Refused.{refusal_text, too_long};
-ghost use Rattle.qasm_main.specs.Answer.{Answers, AnswersBuilt, AnswersSource, AnswersStep, Finishes, Steps, TellsAlone, WantsMemory, longest_file};
+ghost use Rattle.qasm_main.specs.Answer.{Answers, AnswersSentences, AnswersSource, AnswersStep, Finishes, Steps, TellsAlone, WantsMemory, longest_file};
 
 use crate::compile::plan_of;
 use crate::reader::read;
@@ -178,7 +178,7 @@ fn answer_sentences<K: Sink>(
     requires builtin { machine.now ≡ built_in }
     requires formed { All IsWellFormedSentence sentences.now }
     requires few { length sentences.now ≤ MOST }
-    ensures { WantsMemory (K.state sink.old) (K.state sink.new) result ⊎ AnswersBuilt sentences.now (K.state sink.old) (K.state sink.new) result }
+    ensures { WantsMemory (K.state sink.old) (K.state sink.new) result ⊎ AnswersSentences sentences.now (K.state sink.old) (K.state sink.new) result }
 {
     match plan_of(alloc, sentences, machine) {
         Ok(plan) => answer_plan(alloc, plan, machine, sink),
