@@ -16,6 +16,7 @@ use Rattle.plan_tree.proofs.DeedLemmas.{apart-plays}
 use Rattle.box_schedule.specs.Placement.{IsAdmissible, length_of, longest, starts_of}
 use Rattle.qasm_main.specs.declared.statement.Sentence.{Sentence}
 use Rattle.qs_machine.specs.BuiltIn.{built_in}
+use Rattle.qasm_main.specs.Source.{most_statements}
 use Rattle.qasm_main.specs.Statement.{IsWellFormedSentence}
 use Rattle.qasm_main.specs.Compiled.{IsBlockOf, IsBodyBy, IsPlanOf, is_left_out, ops_of, owners_of, pulses_of}
 use Rattle.qasm_main.proofs.PulseLemmas.{IsQubitPulse, qubit_pulses, length-pulses_from, begin_before_end, pulses_apart, same_start_flips}
@@ -39,7 +40,7 @@ sound_event plan ticks e framed owned known below =
 -- what holds of statements that are planned: they are well formed, and their placement is admissible and not too long
 pub record ArePlanned (sentences : List Sentence) : Type 0 where
   pub formed : All IsWellFormedSentence sentences
-  pub few : length sentences ≤ 65536
+  pub few : length sentences ≤ most_statements
   pub short : length_of (ops_of sentences) ≤ longest
   pub admissible : IsAdmissible (ops_of sentences) (starts_of (ops_of sentences))
 

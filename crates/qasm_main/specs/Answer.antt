@@ -121,7 +121,3 @@ AnswersWords most limit None shelf shelf' old new plain = (shelf' ≡ shelf) × 
 -- the answer of the program, where sources have at most so many statements and files at most so many bytes
 abbrev pub Answers : ℕ → ℕ → List (List ℕ) → ShelfState → ShelfState → SinkState → SinkState → Plain → Type 0
 Answers most limit words shelf shelf' old new plain = AnswersWords most limit (file_of words) shelf shelf' old new plain
-
--- how many bytes a file has at most
-abbrev pub longest_file : ℕ
-longest_file = 1048576

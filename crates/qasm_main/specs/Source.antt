@@ -140,3 +140,7 @@ reading_of (suc n) (t ∷ ts) = elim (statement_at (t ∷ ts)) [
 -- how many statements a source has at most
 abbrev pub most_statements : ℕ
 most_statements = 65536
+
+-- how many bytes a file has at most
+abbrev pub longest_file : ℕ
+longest_file = 1048576

@@ -4,6 +4,7 @@ ghost use Rattle.box_schedule.specs.Placement.{length_of, starts_of};
 ghost use Rattle.plan_tree.specs.Sound.{IsSound, start_cmp, start_key};
 ghost use Rattle.qs_machine.specs.BuiltIn.{built_in};
 ghost use Rattle.qasm_main.specs.Compiled.{IsBodyBy, PlanIs, is_left_out, op_by, ops_of, owners_of, pulse_at, pulses_by, pulses_from, timed};
+ghost use Rattle.qasm_main.specs.Source.{most_statements};
 ghost use Rattle.qasm_main.specs.Statement.{IsWellFormed, IsWellFormedSentence};
 
 use crate::refusal::refusal_at;
@@ -179,7 +180,7 @@ fn owners_of(alloc: Global, ports: &[Port]) -> Result<List<u8>, Memory>
 pub fn plan_of(alloc: Global, sentences: &[Sentence], machine: &Machine) -> Result<Plan, Halt>
     requires builtin { machine.now ≡ built_in }
     requires formed { All IsWellFormedSentence sentences.now }
-    requires few { length sentences.now ≤ 65536 }
+    requires few { length sentences.now ≤ most_statements }
     ensures plan { PlanIs sentences.now result }
     ensures sound { IfOk result IsSound }
 {
@@ -210,6 +211,7 @@ pub fn plan_of(alloc: Global, sentences: &[Sentence], machine: &Machine) -> Resu
 #[cfg(test)]
 mod tests {
     use super::*;
+    use crate::top::MOST;
     use std::process::Abort;
     use std::test::Fail;
 
@@ -343,7 +345,7 @@ mod tests {
         ensures { OnOk result (All IsWellFormedSentence sentences.new.items) }
     {
         for line in lines {
-            assert!(rt; sentences.len() < 65536);
+            assert!(rt; sentences.len() < MOST as usize);
             sentences.push(Sentence {
                 span: Span {
                     line: sentences.len() as u32 + 1,
@@ -361,13 +363,13 @@ mod tests {
         case: &Case,
     ) -> Result<Vec<Sentence>, AllocError>
         ensures formed { IfOk result (λ sentences. All IsWellFormedSentence sentences.items) }
-        ensures few { IfOk result (λ sentences. length sentences.items ≤ 65536) }
+        ensures few { IfOk result (λ sentences. length sentences.items ≤ most_statements) }
     {
         let mut sentences = Vec::new(alloc);
         for _ in 0..case.times {
             add_sentences(rt, alloc, &mut sentences, case.lines)?;
         }
-        assert!(rt; sentences.len() <= 65536);
+        assert!(rt; sentences.len() <= MOST as usize);
         Ok(sentences)
     }
 

@@ -1,5 +1,5 @@
 ghost use Rattle.std.specs.Prelude.{◌≡◌, ◌<◌, ◌≤◌, All, IfOk, IfSome, length, option_map};
-ghost use Rattle.qasm_main.specs.Source.{behind, digits_behind, qubit_of, time_of, qubit_at, time_at, next_qubit_at, ended, x_at, cx_at, delay_at, qubits_behind, barrier_at, statement_by, statement_at};
+ghost use Rattle.qasm_main.specs.Source.{behind, digits_behind, qubit_of, time_of, qubit_at, time_at, next_qubit_at, ended, x_at, cx_at, delay_at, qubits_behind, barrier_at, statement_by, statement_at, longest_file};
 ghost use Rattle.qasm_main.specs.Statement.{IsWellFormed, IsWellFormedSentence, longest_delay};
 ghost use Rattle.qasm_main.specs.Reads.{HaltIs, Reads, ReadsTokens};
 
@@ -261,7 +261,7 @@ fn read_tokens(alloc: Global, tokens: &[Token], most: u32) -> Result<List<Senten
 /// it has none, with the code of what isn't built and the place of the first token that begins no such
 /// statement, or of the statement that passes `most`. `Halt::Memory` where memory is wanting.
 pub fn read(alloc: Global, source: &[u8], most: u32) -> Result<List<Sentence>, Halt>
-    requires { length source.now ≤ 1048576 }
+    requires { length source.now ≤ longest_file }
     ensures reads { Reads most source.now result }
     ensures formed { IfOk result (λ v. All IsWellFormedSentence v) }
     ensures few { IfOk result (λ v. length v ≤ most) }
@@ -275,6 +275,7 @@ pub fn read(alloc: Global, source: &[u8], most: u32) -> Result<List<Sentence>, H
 #[cfg(test)]
 mod tests {
     use super::*;
+    use crate::top::LIMIT;
     use std::test::Fail;
 
     /// The sentences as text: of each its place, its word, its ticks and its qubits.
@@ -346,7 +347,7 @@ mod tests {
             ),
         ];
         for (source, most, wanted) in rows {
-            assert!(rt; source.len() <= 1_048_576);
+            assert!(rt; source.len() <= LIMIT as usize);
             match (read(alloc, source, most), wanted) {
                 (Ok(sentences), Ok(wanted)) => {
                     let text = shown(alloc, sentences.as_slice())?;

@@ -4,7 +4,7 @@ ghost use Rattle.plan_tree.specs.Sound.{IsSound};
 ghost use Rattle.qs_machine.specs.BuiltIn.{built_in};
 ghost use Rattle.timeline_board.specs.Refused.{name_of};
 ghost use Rattle.qasm_main.specs.declared.statement.Sentence.{Sentence as Said};
-ghost use Rattle.qasm_main.specs.Source.{most_statements};
+ghost use Rattle.qasm_main.specs.Source.{longest_file, most_statements};
 ghost use Rattle.qasm_main.specs.Statement.{IsWellFormedSentence};
 ghost use Rattle.qasm_main.specs.Words.{file_of};
 ghost use Rattle.qasm_main.specs.Faults.{IsReadFault, IsWriteFault};
@@ -12,7 +12,7 @@ ghost use Rattle.qasm_main.specs.Compiled.{IsCompiled, IsPlanOf};
 ghost use Rattle.qasm_main.specs.Ran.{IsRunOf, PutsRun};
 ghost use Rattle.qasm_main.specs.Report.{counts_line};
 ghost use Rattle.qasm_main.specs.Refused.{refusal_text, too_long};
-ghost use Rattle.qasm_main.specs.Answer.{Answers, AnswersSentences, AnswersSource, AnswersStep, Finishes, Steps, TellsAlone, WantsMemory, longest_file};
+ghost use Rattle.qasm_main.specs.Answer.{Answers, AnswersSentences, AnswersSource, AnswersStep, Finishes, Steps, TellsAlone, WantsMemory};
 
 use crate::compile::plan_of;
 use crate::reader::read;
@@ -31,10 +31,10 @@ use timeline_board::{refused, report};
 const FILE_TOO_LONG: u16 = 10;
 
 /// The most bytes of a file.
-const LIMIT: u32 = 1_048_576;
+pub const LIMIT: u32 = 1_048_576;
 
 /// The most statements of a source.
-const MOST: u32 = 65_536;
+pub const MOST: u32 = 65_536;
 
 const USAGE: &[u8] =
     b"usage: check F [M] | code F [M] | step F [M [T [O]]] | run F [M [T]] | make N [text]\n";
@@ -177,7 +177,7 @@ fn answer_sentences<K: Sink>(
 ) -> Plain
     requires builtin { machine.now ≡ built_in }
     requires formed { All IsWellFormedSentence sentences.now }
-    requires few { length sentences.now ≤ MOST }
+    requires few { length sentences.now ≤ most_statements }
     ensures { WantsMemory (K.state sink.old) (K.state sink.new) result ⊎ AnswersSentences sentences.now (K.state sink.old) (K.state sink.new) result }
 {
     match plan_of(alloc, sentences, machine) {
@@ -189,8 +189,8 @@ fn answer_sentences<K: Sink>(
 
 /// Runs a source on the built-in machine and tells its report, or its refusal.
 fn answer_source<K: Sink>(alloc: Global, source: &[u8], sink: &mut K, most: u32) -> Plain
-    requires short { length source.now ≤ LIMIT }
-    requires few { most ≤ MOST }
+    requires short { length source.now ≤ longest_file }
+    requires few { most ≤ most_statements }
     ensures { WantsMemory (K.state sink.old) (K.state sink.new) result ⊎ AnswersSource most source.now (K.state sink.old) (K.state sink.new) result }
 {
     let Ok(machine) = Machine::builtin(alloc) else {
@@ -212,8 +212,8 @@ fn step<H: Shelf, K: Sink>(
     limit: u32,
     most: u32,
 ) -> Plain
-    requires short { limit ≤ LIMIT }
-    requires few { most ≤ MOST }
+    requires short { limit ≤ longest_file }
+    requires few { most ≤ most_statements }
     ensures { AnswersStep most limit name.now (H.state shelf.old) (H.state shelf.new) (K.state sink.old) (K.state sink.new) result }
 {
     match shelf.take(alloc, name, limit) {
