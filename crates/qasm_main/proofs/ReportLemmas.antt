@@ -1,8 +1,10 @@
 -- The report of a run by picks is the undivided run's.
-use Rattle.std.proofs.Common.{◌≡◌, ℕ, ◌<◌, ◌≤◌, List, [], ◌∷◌, Bool, true, false, length, map, ap, sym, subst, arith}
-use Rattle.std.specs.Prelude.{All, Some, slice_get}
+use Rattle.std.proofs.Common.{◌≡◌, ℕ, ◌<◌, ◌≤◌, List, [], ◌∷◌, ◌++◌, Bool, true, false, length, map, ap, sym, subst, arith}
+use Rattle.std.specs.Prelude.{All, Result, Some, slice_get}
 use Rattle.std.proofs.lemmas.List.Elements.{All-append, All-cons, All-nil, All-weaker}
 use Rattle.std.proofs.lemmas.List.Sorted.{All-permutation}
+use Rattle.outside.specs.declared.sink.PutFailed.{PutFailed}
+use Rattle.outside.specs.Sink.{PutsText, SinkState}
 use Rattle.plan_tree.specs.declared.plan.Plan.{Plan}
 use Rattle.plan_tree.specs.declared.plan.Event.{Event}
 use Rattle.plan_tree.specs.declared.plan.PlanStmt.{PlanStmt}
@@ -15,18 +17,20 @@ use Rattle.controller_machine.specs.Ctl.{CtlState}
 use Rattle.controller_core.specs.declared.core_state.Counted.{Counted}
 use Rattle.controller_core.specs.Core.{CoreState, HaveEnded, states_of}
 use Rattle.controller_core.specs.Reached.{IsReached}
-use Rattle.timeline_board.specs.Conditions.{AreNamed, HubHolds, IsNamed}
+use Rattle.timeline_board.specs.Conditions.{AreNamed, HubHolds, IsNamed, PutsReport}
 use Rattle.timeline_board.specs.Order.{IsMerge, logs_of}
 use Rattle.timeline_board.specs.Report.{IsReport, report_text}
 use Rattle.timeline_board.proofs.ReportLemmas.{planned-all, report-is-run}
 use Rattle.qasm_main.specs.declared.statement.Statement.{Statement}
 use Rattle.qasm_main.specs.declared.statement.Statement.TheVariants.{X, Cx, Delay, Barrier}
 use Rattle.qasm_main.specs.declared.statement.Sentence.{Sentence}
-use Rattle.qasm_main.specs.Ran.{no_tape}
+use Rattle.qasm_main.specs.declared.run.Ran.{Ran}
+use Rattle.qasm_main.specs.Ran.{IsRunOf, PutsRun, no_tape}
+use Rattle.qasm_main.specs.Report.{counts_line}
 use Rattle.qasm_main.specs.Compiled.{IsBodyBy, IsCompiled, is_left_out, pulse_at, pulses_by, pulses_from, pulses_of, w4, w8}
 use Rattle.qasm_main.specs.Named.{DeedHas, StmtHas}
 use Rattle.qasm_main.proofs.NamedLemmas.{logs-named}
-use Rattle.qasm_main.proofs.RunLemmas.{hub-last, logs-ended}
+use Rattle.qasm_main.proofs.RunLemmas.{hub-last, logs-ended, run-keeps}
 
 -- The built-in machine has a port and a waveform of this number.
 abbrev IsPort : ℕ → Type 0
@@ -98,3 +102,14 @@ is-report core plan entries hub is_plan is_tape reached ended is_merge at =
     let report = report-is-run core.plan core.tape built_in entries hub reached.sound merged (hub-last core hub reached ended at) in
     subst (λ p. IsReport p built_in (run_of p no_tape) (report_text p built_in entries hub)) is_plan
     (subst (λ tape. IsReport core.plan built_in (run_of core.plan tape) (report_text core.plan built_in entries hub)) is_tape report)
+
+-- The report of a run and its counts were put, where the counts' line was put behind any text of the report, or a fault came before.
+pub puts-run : (ran : Ran) (old mid new : SinkState) (put result : Result (Unit {0}) PutFailed) → IsRunOf ran.plan ran → PutsReport ran.plan built_in (states_of ran.core) old mid put
+    → ((report : List ℕ) → PutsText old mid report put → PutsText old new (report ++ counts_line ran.counts.stepped ran.counts.waited) result) → PutsRun ran old new result
+puts-run ran old mid new put result is reports counted =
+    let kept = run-keeps ran is in
+    record {
+      report = report_text ran.plan built_in reports.entries reports.hub;
+      reports = is-report ran.core ran.plan reports.entries reports.hub kept.0 kept.1 is.reached is.runs.ended reports.merged reports.first;
+      text = counted (report_text ran.plan built_in reports.entries reports.hub) reports.text;
+    }

@@ -11,11 +11,14 @@ use Rattle.controller_machine.specs.declared.ctl.Played.{Played}
 use Rattle.controller_machine.specs.Log.{log_of}
 use Rattle.controller_machine.specs.Last.{IsLast}
 use Rattle.controller_machine.specs.Ctl.{CtlState}
-use Rattle.controller_core.specs.Core.{CoreState, HaveEnded, Runs, start_core, states_of, sweeps_of}
+use Rattle.controller_core.specs.Core.{CoreState, HaveEnded, start_core, states_of, sweeps_of}
 use Rattle.controller_core.specs.Reached.{IsReached}
 use Rattle.controller_core.proofs.PickLemmas.{ended-wants}
 use Rattle.controller_core.proofs.SweepLemmas.{picks-plan, picks-tape}
 use Rattle.timeline_board.specs.Order.{logs_of, logs_planned}
+use Rattle.qs_machine.specs.BuiltIn.{built_in}
+use Rattle.qasm_main.specs.declared.run.Ran.{Ran}
+use Rattle.qasm_main.specs.Ran.{IsRunOf, no_tape}
 
 -- a controller that has ended has made all of its planned acts
 ended-acts : (core : CoreState) (k : ℕ) (c : Counted) → IsReached core → HaveEnded core → slice_get core.controllers k ≡ Some c
@@ -60,8 +63,8 @@ hub-last core hub reached ended at =
     subst (IsLast core.plan core.tape) first.2 ((reached.follows 0 c first.1).last (ended-acts core 0 c reached ended first.1))
 
 -- A core that was run has the plan and the tape that it was made with.
-pub run-keeps : (order : List ℕ) (start core : CoreState) (plan : Plan) (tape : Tape) (mail stepped waited : ℕ) → start ≡ start_core plan tape mail → Runs order start core stepped waited
-    → (core.plan ≡ plan) × (core.tape ≡ tape)
-run-keeps order start core plan tape mail stepped waited made runs =
-    let all = order ++ sweeps_of start.plan.controllers runs.sweeps in
-    (ap (λ c. c.plan) runs.state ∙ picks-plan start all ∙ ap (λ c. c.plan) made, ap (λ c. c.tape) runs.state ∙ picks-tape start all ∙ ap (λ c. c.tape) made)
+pub run-keeps : (ran : Ran) → IsRunOf ran.plan ran → (ran.core.plan ≡ ran.plan) × (ran.core.tape ≡ no_tape)
+run-keeps ran is =
+    let start = start_core ran.plan no_tape built_in.mail in
+    let all = sweeps_of start.plan.controllers is.runs.sweeps in
+    (ap (λ c. c.plan) is.runs.state ∙ picks-plan start all, ap (λ c. c.tape) is.runs.state ∙ picks-tape start all)

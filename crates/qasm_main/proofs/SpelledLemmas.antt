@@ -1,6 +1,7 @@
 -- Reading what was spelled, statement by statement.
-use Rattle.std.proofs.Common.{◌≡◌, ℕ, ◌<◌, List, [], ◌∷◌, ◌++◌, All, length, ap, sym, ◌∙◌, refl, arith}
+use Rattle.std.proofs.Common.{◌≡◌, ℕ, ◌<◌, List, [], ◌∷◌, ◌++◌, length, ap, sym, ◌∙◌, refl, arith}
 use Rattle.std.specs.Prelude.{zero, suc}
+use Rattle.std.proofs.lemmas.List.Elements.{All-tail}
 use Rattle.qs_lexer.specs.declared.token.Token.{Token}
 use Rattle.qasm_main.specs.declared.statement.Statement.{Statement}
 use Rattle.qasm_main.specs.declared.statement.Statement.TheVariants.{X, Cx, Delay, Barrier}
@@ -10,9 +11,6 @@ use Rattle.qasm_main.specs.Statement.{IsWellFormed}
 use Rattle.qasm_main.specs.Spelled.{SpelledIsRead, spelled, texts_of, words_of}
 use Rattle.qasm_main.proofs.ReaderLemmas.{reading_of-some}
 use Rattle.qasm_main.proofs.SpelledWords.{statement-text}
-
-tail-all : {T : Type 0} (P : T → Type 0) (x : T) (xs : List T) → All P (x ∷ xs) → All P xs
-tail-all P x xs h = λ k d lt. h (suc k) d (omega arith)
 
 -- some texts begin with that of a first token
 some-token : (s : Statement) (ts : List Token) (more : List (List ℕ)) → texts_of ts ≡ words_of s ++ more → (first : Token) × (others : List Token) × (ts ≡ first ∷ others)
@@ -36,7 +34,7 @@ spelled_is_read zero (s ∷ ss) ts formed few h = absurd (omega arith)
 spelled_is_read (suc n) (s ∷ ss) ts formed few h =
     let read = statement-text s ts (spelled ss) (formed 0 s (omega arith)) h in
     let some = some-token s ts (spelled ss) h in
-    let others = spelled_is_read n ss read.0 (tail-all IsWellFormed s ss formed) (omega arith) read.2 in
+    let others = spelled_is_read n ss read.0 (All-tail IsWellFormed s ss formed) (omega arith) read.2 in
     let sentence : Sentence = record { span = some.0.span; statement = s } in (
       sentence ∷ others.0,
       ap (reading_of (suc n)) some.2 ∙ reading_of-some n some.0 some.1 (record { value = s; rest = read.0 }) (sym read.1 ∙ ap statement_at some.2) ∙ ap (with_sentence sentence) others.1,

@@ -1,10 +1,12 @@
 -- Reading the tokens of a statement that was spelled.
 use Rattle.std.proofs.Common.{◌≡◌, ◌≢◌, ℕ, ◌+◌, ◌-◌, ◌*◌, ◌^◌, ◌<◌, ◌≤◌, List, [], ◌∷◌, ◌++◌, All, length, true, false, nat_eq, nat_le, ◌&&◌, ap, sym, ◌∙◌, refl, append_assoc, inl, inr, rules, arith}
 use Rattle.std.specs.Prelude.{Option, Some, None, zero, suc, codes, decimal}
+use Rattle.std.specs.Char.{is_ascii_digit}
 use Rattle.std.specs.Int.{IsInRange}
 use Rattle.std.specs.Str.{bytes_eq}
 use Rattle.std.proofs.lemmas.Slice.Eq.{bytes_eq-Decides}
 use Rattle.std.proofs.lemmas.List.{length-map}
+use Rattle.std.proofs.lemmas.List.Elements.{All-tail}
 use Rattle.std.proofs.Math.Nat.{zero-add, add-zero}
 use Rattle.std.proofs.lemmas.Bool.{le-leb}
 use Rattle.std.proofs.lemmas.Bool.Decides.{eqb_tells}
@@ -42,7 +44,7 @@ numerals = numerals_by_fold AreDigits digits_test number_of digits_fold
 digits_read : (number count : ℕ) (ds : List ℕ) → AreDigits ds → digits_behind number count (ds ++ codes "dt") ≡ record { number = number_of number ds; count = count + length ds; rest = codes "dt" }
 digits_read number count [] are = ap (λ n. record { number = number; count = n; rest = codes "dt" }) (sym (add-zero count))
 digits_read number count (c ∷ cs) are =
-    let test : (nat_le 48 c && nat_le c 57) ≡ true = rw (le-leb 48 c are.0.0, le-leb c 57 are.0.1) refl in
+    let test : is_ascii_digit c ≡ true = rw (le-leb 48 c are.0.0, le-leb c 57 are.0.1) refl in
     let counted : count + 1 + length cs ≡ count + length (c ∷ cs) = omega arith in
     rw (test, digits_behind) (digits_read (10 * number + (c - 48)) (count + 1) cs are.1 ∙ ap (λ n. record { number = number_of (10 * number + (c - 48)) cs; count = n; rest = codes "dt" }) counted)
 
@@ -120,9 +122,6 @@ ended-text s ts ws h =
     let end = behind-text ts (codes ";") ws h in
     (end.0, rw (end.1, ended) refl, end.2)
 
-tail-below : (q : ℕ) (qs : List ℕ) → All (λ x. x < 3) (q ∷ qs) → All (λ x. x < 3) qs
-tail-below q qs h = λ k d lt. h (suc k) d (omega arith)
-
 -- qubits behind commas are read up to `;`
 qubits-text : (n : ℕ) (before qs : List ℕ) (ts : List Token) (ws : List (List ℕ)) → All (λ q. q < 3) qs → length ts ≤ n → texts_of ts ≡ more_operands qs ++ codes ";" ∷ ws
     → (rest : List Token) × (qubits_behind n before ts ≡ record { value = before ++ qs; rest = rest }) × (texts_of rest ≡ codes ";" ∷ ws)
@@ -131,7 +130,7 @@ qubits-text n before [] ts ws three enough h =
 qubits-text n before (q ∷ qs) ts ws three enough h =
     let next = next_qubit-text ts q (more_operands qs ++ codes ";" ∷ ws) (three 0 q (omega arith)) h in
     let fewer : length next.0 < length ts = shorter ts next.0 h next.2 in
-    let all = qubits-text (n - 1) (before ++ q ∷ []) qs next.0 ws (tail-below q qs three) (omega arith) next.2 in
+    let all = qubits-text (n - 1) (before ++ q ∷ []) qs next.0 ws (All-tail (λ x. x < 3) q qs three) (omega arith) next.2 in
     (all.0, sym (qubits_behind-some n before ts (record { value = q; rest = next.0 }) (sym next.1) fewer enough) ∙ all.1 ∙ ap (λ qs'. record { value = qs'; rest = all.0 }) (append_assoc before (q ∷ []) qs), all.2)
   where
     length-texts : (xs : List Token) → length (texts_of xs) ≡ length xs
@@ -170,7 +169,7 @@ statement-text (Delay ticks q) ts more formed h = statement-by ts (codes "delay"
 statement-text (Barrier []) ts more formed h = absurd (omega (arith, formed.0))
 statement-text (Barrier (q ∷ qs)) ts more formed h = statement-by ts (codes "barrier") (operand q ∷ more_operands qs ++ codes ";" ∷ more) (Barrier (q ∷ qs)) more (h ∙ joined) (λ others is.
     let first = qubit-text others q (more_operands qs ++ codes ";" ∷ more) (formed.1 0 q (omega arith)) is in
-    let all = qubits-text (length first.0) (q ∷ []) qs first.0 more (tail-below q qs formed.1) (omega arith) first.2 in
+    let all = qubits-text (length first.0) (q ∷ []) qs first.0 more (All-tail (λ x. x < 3) q qs formed.1) (omega arith) first.2 in
     let end = ended-text (Barrier (q ∷ qs)) all.0 more all.2 in
     (end.0, rw (first.1, all.1, barrier_at) end.1, end.2))
   where

@@ -1,20 +1,18 @@
 -- Reading the parts of a statement: times, and qubits behind commas.
 use Rattle.std.proofs.Common.{◌≡◌, ℕ, ◌+◌, ◌-◌, ◌*◌, ◌<◌, ◌≤◌, List, [], ◌∷◌, ◌++◌, length, Bool, true, false, cond, nat_le, ◌&&◌, refl, subst, arith}
 use Rattle.std.specs.Prelude.{Option, Some, None, zero, suc, codes}
+use Rattle.std.specs.Char.{is_ascii_digit}
 use Rattle.std.specs.Str.{bytes_eq}
 use Rattle.std.proofs.lemmas.Bool.{lt-leb}
 use Rattle.qs_lexer.specs.declared.token.Token.{Token}
 use Rattle.qasm_main.specs.Source.{Part, Digits, digits_behind, time_by, next_qubit_at, qubits_behind}
 
-abbrev pub is_digit : ℕ → Bool
-is_digit b = nat_le 48 b && nat_le b 57
-
 -- no digit comes first
-pub digits_behind-none : (number count b : ℕ) (bs : List ℕ) → is_digit b ≡ false → digits_behind number count (b ∷ bs) ≡ record { number = number; count = count; rest = b ∷ bs }
+pub digits_behind-none : (number count b : ℕ) (bs : List ℕ) → is_ascii_digit b ≡ false → digits_behind number count (b ∷ bs) ≡ record { number = number; count = count; rest = b ∷ bs }
 digits_behind-none number count b bs h = rw (h, digits_behind) refl
 
 -- one does
-pub digits_behind-some : (number count b : ℕ) (bs : List ℕ) → is_digit b ≡ true → digits_behind (10 * number + (b - 48)) (count + 1) bs ≡ digits_behind number count (b ∷ bs)
+pub digits_behind-some : (number count b : ℕ) (bs : List ℕ) → is_ascii_digit b ≡ true → digits_behind (10 * number + (b - 48)) (count + 1) bs ≡ digits_behind number count (b ∷ bs)
 digits_behind-some number count b bs h = rw (h, digits_behind) refl
 
 counted : (t : Bool) (count : ℕ) (x y : Digits) → count ≤ x.count → count ≤ y.count → count ≤ (cond t x y).count
@@ -27,7 +25,7 @@ count_grows number count [] = omega arith
 count_grows number count (b ∷ bs) =
     let more = digits_behind (10 * number + (b - 48)) (count + 1) bs in
     let grows : count + 1 ≤ more.count = count_grows (10 * number + (b - 48)) (count + 1) bs in
-    counted (nat_le 48 b && nat_le b 57) count more (record { number = number; count = count; rest = b ∷ bs }) (omega arith) (omega arith)
+    counted (is_ascii_digit b) count more (record { number = number; count = count; rest = b ∷ bs }) (omega arith) (omega arith)
 
 untimed : (front back unit : Bool) (t : Option ℕ) → None ≡ cond (front && false && back && unit) t None
 untimed true back unit t = refl
@@ -40,7 +38,7 @@ time_by-many d many =
     rw test (untimed (nat_le 1 d.count) (nat_le d.number 4294967296) (bytes_eq d.rest (codes "dt")) _)
 
 -- where an eleventh digit comes, there is no time
-pub time_by-eleven : (number b : ℕ) (bs : List ℕ) → is_digit b ≡ true → None ≡ time_by (digits_behind number 10 (b ∷ bs))
+pub time_by-eleven : (number b : ℕ) (bs : List ℕ) → is_ascii_digit b ≡ true → None ≡ time_by (digits_behind number 10 (b ∷ bs))
 time_by-eleven number b bs h =
     let same : digits_behind (10 * number + (b - 48)) 11 bs ≡ digits_behind number 10 (b ∷ bs) = digits_behind-some number 10 b bs h in
     let many : 11 ≤ (digits_behind (10 * number + (b - 48)) 11 bs).count = count_grows (10 * number + (b - 48)) 11 bs in

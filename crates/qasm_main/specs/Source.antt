@@ -1,5 +1,6 @@
 -- The statements that are built so far, `x`, `cx`, `delay` and `barrier` on three qubits, as tokens (a small part of OpenQASM 3.0).
 use Rattle.std.specs.Prelude.{ℕ, ◌+◌, ◌-◌, ◌*◌, List, [], ◌∷◌, ◌++◌, ◌&&◌, length, if◌then◌else◌, nat_eq, nat_le, Option, Some, None, codes, zero, suc}
+use Rattle.std.specs.Char.{is_ascii_digit}
 use Rattle.std.specs.Str.{bytes_eq}
 use Rattle.qs_values.specs.declared.span.Span.{Span}
 use Rattle.qs_lexer.specs.declared.token.Token.{Token}
@@ -32,7 +33,7 @@ pub record Digits : Type 0 where
 abbrev pub digits_behind : ℕ → ℕ → List ℕ → Digits
 digits_behind number count [] = record { number = number; count = count; rest = [] }
 digits_behind number count (b ∷ bs) =
-    if nat_le 48 b && nat_le b 57 then digits_behind (10 * number + (b - 48)) (count + 1) bs else record { number = number; count = count; rest = b ∷ bs }
+    if is_ascii_digit b then digits_behind (10 * number + (b - 48)) (count + 1) bs else record { number = number; count = count; rest = b ∷ bs }
 
 -- how many digits the number of a delay's ticks has at most
 abbrev pub most_digits : ℕ

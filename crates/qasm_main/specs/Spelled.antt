@@ -1,5 +1,6 @@
 -- Tokens that spell statements. This project's own.
 use Rattle.std.specs.Prelude.{◌≡◌, ℕ, ◌+◌, ◌≤◌, List, [], ◌∷◌, ◌++◌, All, codes, decimal, length, map}
+use Rattle.std.specs.List.{flat_map}
 use Rattle.qs_lexer.specs.declared.token.Token.{Token}
 use Rattle.qasm_main.specs.declared.statement.Statement.{Statement}
 use Rattle.qasm_main.specs.declared.statement.Statement.TheVariants.{X, Cx, Delay, Barrier}
@@ -30,8 +31,7 @@ words_of (Barrier qs) = codes "barrier" ∷ operands qs ++ codes ";" ∷ []
 
 -- those of statements, one after another
 abbrev pub spelled : List Statement → List (List ℕ)
-spelled [] = []
-spelled (s ∷ ss) = words_of s ++ spelled ss
+spelled statements = flat_map words_of statements
 
 -- the texts of tokens
 abbrev pub texts_of : List Token → List (List ℕ)
