@@ -20,16 +20,19 @@ use Rattle.qasm_main.specs.declared.statement.Statement.TheVariants.{X, Cx, Dela
 use Rattle.qasm_main.specs.declared.statement.Sentence.{Sentence}
 use Rattle.qasm_main.specs.Refused.{tick_out_at}
 
--- the waveforms of `x` and `cx` by their places in the machine's list, and how many ticks they last
+-- the waveform of `x`, by its place in the machine's list
 abbrev pub w4 : ℕ
 w4 = 0
 
+-- how many ticks it lasts
 abbrev pub w4_ticks : ℕ
 w4_ticks = 4
 
+-- the waveform of `cx`
 abbrev pub w8 : ℕ
 w8 = 1
 
+-- how many ticks it lasts
 abbrev pub w8_ticks : ℕ
 w8_ticks = 8
 

@@ -52,10 +52,11 @@ abbrev pub first_by : {X : Type 0} → (List ℕ → Option X) → List Token �
 first_by value_of [] = None
 first_by value_of (t ∷ ts) = elim (value_of t.text) [ None ↦ None | Some value ↦ Some (record { value = value; rest = ts }) ]
 
--- the qubit, and the time, that come next
+-- the qubit that comes next
 abbrev pub qubit_at : List Token → Option (Part ℕ)
 qubit_at ts = first_by qubit_of ts
 
+-- the time that comes next
 abbrev pub time_at : List Token → Option (Part ℕ)
 time_at ts = first_by time_of ts
 

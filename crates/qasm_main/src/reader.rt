@@ -278,6 +278,55 @@ mod tests {
     use crate::top::LIMIT;
     use std::test::Fail;
 
+    /// A source, how many statements it may have, and its sentences as text, or the code, the line and the column of its
+    /// refusal.
+    type Row = (&'static [u8], u32, Result<&'static str, (u16, u32, u32)>);
+
+    const ROWS: [Row; 38] = [
+        (b"", 9, Ok("")),
+        (b"x$0;x\t$1 ;", 9, Ok("1:1 x 0;1:5 x 1;")),
+        (b"x $0; y $0;", 9, Err((199, 1, 7))),
+        (b"x $0;\n  x $3;", 9, Err((199, 2, 3))),
+        (b"x $ 0;", 9, Err((102, 1, 3))),
+        (b"x $1;\n x", 9, Err((199, 2, 2))),
+        (b"x $2;\xFF", 9, Err((101, 1, 6))),
+        (b"x $0; x $1; x $2;", 2, Err((199, 1, 13))),
+        (b"x $0; x $1; ", 2, Ok("1:1 x 0;1:7 x 1;")),
+        (b"x $00;", 9, Err((199, 1, 1))),
+        (b"/* a */ x // b\n$0/**/;", 9, Ok("1:9 x 0;")),
+        (b"@note\nx $0;\npragma ?", 9, Ok("2:1 x 0;")),
+        (b"y /* open", 9, Err((103, 1, 3))),
+        (b"y \"open", 9, Err((104, 1, 3))),
+        (b"y 18446744073709551616", 9, Err((105, 1, 3))),
+        (b"\xCF\x80 $0;", 9, Err((199, 1, 1))),
+        (b"delay[3.0dt] $0;", 9, Err((199, 1, 1))),
+        (b"xx $0;", 9, Err((199, 1, 1))),
+        (b"cx $0,$1;", 9, Ok("1:1 cx 0 1;")),
+        (b"cx $0 , $ 1;", 9, Err((102, 1, 9))),
+        (b"cx $1, $1;", 9, Err((199, 1, 1))),
+        (b"cx\n$2\n,\n$1\n;", 9, Ok("1:1 cx 2 1;")),
+        (b"delay[3dt] $1;", 9, Ok("1:1 delay 3 1;")),
+        (b"delay [ 3dt ] $1 ;", 9, Ok("1:1 delay 3 1;")),
+        (b"delay[3 dt] $1;", 9, Err((199, 1, 1))),
+        (b"delay[4294967296dt] $0;", 9, Ok("1:1 delay 4294967296 0;")),
+        (b"delay[4294967297dt] $0;", 9, Err((199, 1, 1))),
+        (b"delay[00000000003dt] $0;", 9, Err((199, 1, 1))),
+        (b"delay[0000000003dt] $0;", 9, Ok("1:1 delay 3 0;")),
+        (b"delay[dt] $0;", 9, Err((199, 1, 1))),
+        (b"barrier $0;", 9, Ok("1:1 barrier [0];")),
+        (b"barrier $2,$0 , $1;", 9, Ok("1:1 barrier [2, 0, 1];")),
+        (b"barrier;", 9, Err((199, 1, 1))),
+        (b"barrier $0,;", 9, Err((199, 1, 1))),
+        (b"barrier $0 $1;", 9, Err((199, 1, 1))),
+        (b"barrierx $0;", 9, Err((199, 1, 1))),
+        (b"barrier $0,\n  $1;\n   y", 9, Err((199, 3, 4))),
+        (
+            b"cx $0, $1; delay[3dt] $1; x $1;",
+            9,
+            Ok("1:1 cx 0 1;1:12 delay 3 1;1:27 x 1;"),
+        ),
+    ];
+
     /// The sentences as text: of each its place, its word, its ticks and its qubits.
     fn shown(alloc: Global, sentences: &[Sentence]) -> Result<String, AllocError> {
         let mut text = String::new(alloc);
@@ -302,51 +351,7 @@ mod tests {
     #[test]
     fn reads_or_refuses(rt: HostRuntime) -> Result<(), Fail> {
         let alloc = rt.alloc();
-        let rows: [(&[u8], u32, Result<&str, (u16, u32, u32)>); 38] = [
-            (b"", 9, Ok("")),
-            (b"x$0;x\t$1 ;", 9, Ok("1:1 x 0;1:5 x 1;")),
-            (b"x $0; y $0;", 9, Err((199, 1, 7))),
-            (b"x $0;\n  x $3;", 9, Err((199, 2, 3))),
-            (b"x $ 0;", 9, Err((102, 1, 3))),
-            (b"x $1;\n x", 9, Err((199, 2, 2))),
-            (b"x $2;\xFF", 9, Err((101, 1, 6))),
-            (b"x $0; x $1; x $2;", 2, Err((199, 1, 13))),
-            (b"x $0; x $1; ", 2, Ok("1:1 x 0;1:7 x 1;")),
-            (b"x $00;", 9, Err((199, 1, 1))),
-            (b"/* a */ x // b\n$0/**/;", 9, Ok("1:9 x 0;")),
-            (b"@note\nx $0;\npragma ?", 9, Ok("2:1 x 0;")),
-            (b"y /* open", 9, Err((103, 1, 3))),
-            (b"y \"open", 9, Err((104, 1, 3))),
-            (b"y 18446744073709551616", 9, Err((105, 1, 3))),
-            (b"\xCF\x80 $0;", 9, Err((199, 1, 1))),
-            (b"delay[3.0dt] $0;", 9, Err((199, 1, 1))),
-            (b"xx $0;", 9, Err((199, 1, 1))),
-            (b"cx $0,$1;", 9, Ok("1:1 cx 0 1;")),
-            (b"cx $0 , $ 1;", 9, Err((102, 1, 9))),
-            (b"cx $1, $1;", 9, Err((199, 1, 1))),
-            (b"cx\n$2\n,\n$1\n;", 9, Ok("1:1 cx 2 1;")),
-            (b"delay[3dt] $1;", 9, Ok("1:1 delay 3 1;")),
-            (b"delay [ 3dt ] $1 ;", 9, Ok("1:1 delay 3 1;")),
-            (b"delay[3 dt] $1;", 9, Err((199, 1, 1))),
-            (b"delay[4294967296dt] $0;", 9, Ok("1:1 delay 4294967296 0;")),
-            (b"delay[4294967297dt] $0;", 9, Err((199, 1, 1))),
-            (b"delay[00000000003dt] $0;", 9, Err((199, 1, 1))),
-            (b"delay[0000000003dt] $0;", 9, Ok("1:1 delay 3 0;")),
-            (b"delay[dt] $0;", 9, Err((199, 1, 1))),
-            (b"barrier $0;", 9, Ok("1:1 barrier [0];")),
-            (b"barrier $2,$0 , $1;", 9, Ok("1:1 barrier [2, 0, 1];")),
-            (b"barrier;", 9, Err((199, 1, 1))),
-            (b"barrier $0,;", 9, Err((199, 1, 1))),
-            (b"barrier $0 $1;", 9, Err((199, 1, 1))),
-            (b"barrierx $0;", 9, Err((199, 1, 1))),
-            (b"barrier $0,\n  $1;\n   y", 9, Err((199, 3, 4))),
-            (
-                b"cx $0, $1; delay[3dt] $1; x $1;",
-                9,
-                Ok("1:1 cx 0 1;1:12 delay 3 1;1:27 x 1;"),
-            ),
-        ];
-        for (source, most, wanted) in rows {
+        for (source, most, wanted) in ROWS {
             assert!(rt; source.len() <= LIMIT as usize);
             match (read(alloc, source, most), wanted) {
                 (Ok(sentences), Ok(wanted)) => {
