@@ -1,4 +1,5 @@
 pub mod WholeLemmas
+pub mod WholePowers
 pub mod PowerLemmas
 pub mod ShiftLemmas
 pub mod SmallNumbers

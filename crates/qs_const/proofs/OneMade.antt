@@ -1,5 +1,5 @@
 -- What an operation on constants makes is one thing.
-use Rattle.std.proofs.Common.{◌≡◌, ◌≢◌, ◌+◌, ◌*◌, ◌^◌, ◌<◌, ℕ, zero, suc, ap, sym, ◌∙◌, subst, arith, ℤ, pos, ◌+ℤ◌, ◌-ℤ◌, ◌*ℤ◌, ◌<ℤ◌, ◌≤ℤ◌, inl, inr, true≢false, Option, Some, None, Result, Ok, Err}
+use Rattle.std.proofs.Common.{◌≡◌, ◌≢◌, ◌+◌, ◌*◌, ◌^◌, ◌<◌, ℕ, zero, suc, ap, sym, ◌∙◌, subst, arith, ℤ, pos, ◌+ℤ◌, ◌-ℤ◌, ◌*ℤ◌, ◌<ℤ◌, ◌≤ℤ◌, inl, inr, true≢false, Option, Some, None, Result}
 use Rattle.std.proofs.Math.Nat.{lt_of_mul-lt-mul_right}
 use Rattle.std.proofs.lemmas.Int.{ints}
 use borrow.Author.Differences.{up, down}
@@ -15,7 +15,8 @@ use Rattle.qs_const.specs.declared.made.Made.{Made}
 use Rattle.qs_const.specs.declared.folded.Folded.{Folded}
 use Rattle.qs_const.specs.declared.folded.Folded.TheVariants.{Value, Absent}
 use Rattle.qs_const.specs.Outcomes.{value_of}
-use Rattle.qs_const.specs.Operations.{AlikeMakes, ByResult, DividesOther, HasNoQuotient, IsCount, IsExponent, IsNoExponent, IsNothing, IsNotWhole, IsOutside, IsPower, IsWhole, MakesNumber, MakesWhole, MayHaveQuotient, OfNumbers, OfWholes, OnWholes, PairMakes, PowerMakes, QuotientMakes, RaisedIs, RemainderMakes, Remains, ShiftMakes, ShiftedIs, ShiftsDown, ShiftsUp, SignIs, Times, WholesMake, number_made}
+use Rattle.qs_const.specs.Operations.{AlikeMakes, ByResult, DividesOther, HasNoQuotient, IsCount, IsExponent, IsNoExponent, IsNothing, IsNotWhole, IsOutside, IsPower, IsPowerWithPi, IsWhole, MakesNumber, MakesWhole, MayHaveQuotient, OfNumbers, OfWholes, OnWholes, PairMakes, PowerMakes, QuotientMakes, RaisedIs, RemainderMakes, Remains, ShiftMakes, ShiftedIs, ShiftsDown, ShiftsUp, SignIs, WholesMake, number_made}
+use Rattle.qs_const.proofs.PowerLemmas.{nonzero_pow}
 use Rattle.qs_values.proofs.NumberLemmas.{nonzero_den}
 use Rattle.qs_values.proofs.OneNumber.{difference_once, number_once, one_nonzero, product_once, ratio_once, sum_once}
 
@@ -209,15 +210,16 @@ shift_once Shifts once left (Some (Number y)) m o (inr (inr (parted, a, e))) (in
 
 -- ---- powers
 
-times_once : (a b : Result Num NumRefusal) (x : Num) (r s : Result Num NumRefusal) → a ≡ b → Times a x r → Times b x s → r ≡ s
-times_once (Ok y) (Ok z) x r s same h k = product_once z x r s (subst (λ (w : Result Num NumRefusal). Times w x r) same h) k
-times_once (Ok y) (Err e) x r s same h k = absurd cc
-times_once (Err e) (Ok y) x r s same h k = absurd cc
-times_once (Err e) (Err f) x r s same h k = h ∙ same ∙ sym k
+with_pi_once : (x : Num) (n : ℕ) (r s : Result Num NumRefusal) → IsPowerWithPi x n r → IsPowerWithPi x n s → r ≡ s
+with_pi_once x zero r s h k = number_once _ _ _ _ r s one_nonzero one_nonzero h k
+with_pi_once x (suc zero) r s h k = h ∙ sym k
+with_pi_once x (suc (suc n)) r s h k = h ∙ sym k
 
 power_once : (x : Num) (n : ℕ) (r s : Result Num NumRefusal) → IsPower x n r → IsPower x n s → r ≡ s
-power_once x zero r s h k = number_once _ _ _ _ r s one_nonzero one_nonzero h k
-power_once x (suc n) r s (a, p, h) (b, q, k) = times_once a b x r s (power_once x n a b p q) h k
+power_once x n r s (inl h) (inl k) = number_once _ _ _ _ r s (nonzero_pow x.plain n) one_nonzero h.1 k.1
+power_once x n r s (inl h) (inr k) = absurd (k.0 h.0)
+power_once x n r s (inr h) (inl k) = absurd (h.0 k.0)
+power_once x n r s (inr h) (inr k) = with_pi_once x n r s h.1 k.1
 
 raised_once : (left : Folded) (n : ℕ) → Once (RaisedIs left n)
 raised_once (Absent a) n m o p q = p ∙ sym q

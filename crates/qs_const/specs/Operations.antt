@@ -1,6 +1,6 @@
 -- The operations on constants, case by case (OpenQASM 3.0, constant expressions, in this project's exact profile).
 use Rattle.std.specs.Prelude.{◌≡◌, ◌≢◌, ◌⊎◌, ℕ, ◌≤◌, ◌^◌, ℤ, pos, ◌+ℤ◌, ◌-ℤ◌, ◌*ℤ◌, ◌≤ℤ◌, ◌<ℤ◌, Bool, true, false, ◌&&◌, ◌||◌, not, if◌then◌else◌, int_rem, int_lt, int_le, Option, Some, None, Result, Ok, Err, zero, suc}
-use Rattle.std.specs.Int.{int_bit_and, int_bit_or, int_bit_xor}
+use Rattle.std.specs.Int.{int_bit_and, int_bit_or, int_bit_xor, int_pow}
 use mir.Syntax.{w64}
 use Rattle.qs_values.specs.Number.{IsZero, NumberIs, SumIs, DifferenceIs, ProductIs, RatioIs}
 use Rattle.qs_values.specs.declared.number.Num.{Num}
@@ -193,15 +193,17 @@ ShiftMakes Shifts left (Some (Number y)) made =
     ⊎ (IsNotWhole y × ¬ (IsOutside y) × (made ≡ Nothing)))
 ShiftMakes Shifts left right made = made ≡ Nothing
 
--- a product that goes on where there was none too wide before
-abbrev pub Times : Result Num NumRefusal → Num → Result Num NumRefusal → Type 0
-Times (Ok before) x r = ProductIs before x r
-Times (Err e) x r = r ≡ Err e
+-- x to the n-th power, where x has pi: a product of two such numbers is refused
+abbrev pub IsPowerWithPi : Num → ℕ → Result Num NumRefusal → Type 0
+IsPowerWithPi x zero r = NumberIs (pos 1) (pos 1) (pos 0) (pos 1) r
+IsPowerWithPi x (suc zero) r = r ≡ Ok x
+IsPowerWithPi x (suc (suc n)) r = r ≡ Err PiTimesPi
 
 -- x to the n-th power
 abbrev pub IsPower : Num → ℕ → Result Num NumRefusal → Type 0
-IsPower x zero r = NumberIs (pos 1) (pos 1) (pos 0) (pos 1) r
-IsPower x (suc n) r = (before : Result Num NumRefusal) × IsPower x n before × Times before x r
+IsPower x n r =
+    (IsZero x.pi × NumberIs (int_pow x.plain.num n) (int_pow x.plain.den n) (pos 0) (pos 1) r)
+    ⊎ ((x.pi.num ≢ pos 0) × IsPowerWithPi x n r)
 
 -- a power that is refused, or else nothing
 abbrev pub refused_power : Bool → Made
