@@ -39,11 +39,11 @@ not_zero f h zero = omega (arith, ints, h.same, h.above, zero)
 
 -- a name without a constant, and no value of any other kind
 abbrev unknown : ℕ → Folded
-unknown col = without_value (Some (record { span = at col; cause = NotConst })) false
+unknown col = without_value (Some (record { span = at col; cause = NotConst })) false true
 
 -- `z / 0`, without a constant z: the lower code at one place
 lower_code : (x : Num) → IsFrac (pos 0) (pos 1) x.plain → IsFrac (pos 0) (pos 1) x.pi →
-    Folds [] (Joined (at 1) (Named (at 1) (codes "z")) Div (Integer (at 5) 0)) (without_value (Some (record { span = at 1; cause = ByZero })) false)
+    Folds [] (Joined (at 1) (Named (at 1) (codes "z")) Div (Integer (at 5) 0)) (without_value (Some (record { span = at 1; cause = ByZero })) false true)
 lower_code x plain pi = (
   Breaks ByZero,
   unknown 1,
@@ -60,7 +60,7 @@ first_place : (x y : Num) → NumberIs (pos 0) (pos 1) (pos 0) (pos 1) (Ok x) �
 first_place x y zero one = (
   Nothing,
   unknown 1,
-  without_value (Some (record { span = at 5; cause = ByZero })) false,
+  without_value (Some (record { span = at 5; cause = ByZero })) false false,
   (Breaks NotConst, refl, refl),
   (
     Breaks ByZero,
@@ -77,7 +77,7 @@ first_place x y zero one = (
 
 -- `1 ** z`: a power at run time, refused at its first token
 at_run_time : (x : Num) → NumberIs (pos 1) (pos 1) (pos 0) (pos 1) (Ok x) →
-    Folds [] (Joined (at 1) (Integer (at 1) 1) Power (Named (at 6) (codes "z"))) (without_value (Some (record { span = at 1; cause = BadPower })) false)
+    Folds [] (Joined (at 1) (Integer (at 1) 1) Power (Named (at 6) (codes "z"))) (without_value (Some (record { span = at 1; cause = BadPower })) false true)
 at_run_time x one = (
   Breaks BadPower,
   Value (Number x),
@@ -90,10 +90,10 @@ at_run_time x one = (
 
 -- `!z / pi`: no truth value is a multiple of pi
 no_multiple : (x : Num) → NumberIs (pos 0) (pos 1) (pos 1) (pos 1) (Ok x) →
-    Folds [] (Joined (at 1) (Signed (at 1) Not (Named (at 2) (codes "z"))) Div (Named (at 6) (codes "pi"))) (without_value (Some (record { span = at 1; cause = ByPi })) false)
+    Folds [] (Joined (at 1) (Signed (at 1) Not (Named (at 2) (codes "z"))) Div (Named (at 6) (codes "pi"))) (without_value (Some (record { span = at 1; cause = ByPi })) false true)
 no_multiple x one = (
   Breaks ByPi,
-  without_value (Some (record { span = at 2; cause = NotConst })) true,
+  without_value (Some (record { span = at 2; cause = NotConst })) true true,
   Value (Number x),
   (Nothing, unknown 2, (Breaks NotConst, refl, refl), refl, refl),
   (Gives (Number x), (x, one, refl), refl),
@@ -102,5 +102,5 @@ no_multiple x one = (
 )
 
 -- `-true` has no value, and none of the codes is its
-neither : Folds [] (Signed (at 1) Neg (Truthful true)) (without_value None false)
+neither : Folds [] (Signed (at 1) Neg (Truthful true)) (without_value None false false)
 neither = (Nothing, Value (Truth true), refl, refl, refl)

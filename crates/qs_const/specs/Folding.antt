@@ -1,5 +1,5 @@
 -- What a constant expression comes to: its value, or its first refusal in the order of the text. This project's own.
-use Rattle.std.specs.Prelude.{◌≡◌, ◌≢◌, ℕ, pos, List, [], ◌∷◌, Bool, false, ◌&&◌, ◌||◌, if◌then◌else◌, nat_eq, nat_lt, codes, Option, Some, None, Result, Ok, Err}
+use Rattle.std.specs.Prelude.{◌≡◌, ◌≢◌, ℕ, pos, List, [], ◌∷◌, Bool, true, false, ◌&&◌, ◌||◌, if◌then◌else◌, nat_eq, nat_lt, codes, Option, Some, None, Result, Ok, Err}
 use Rattle.std.specs.Str.{bytes_eq}
 use Rattle.qs_values.specs.Number.{IsZero, NumberIs}
 use Rattle.qs_values.specs.declared.number.Num.{Num}
@@ -21,7 +21,7 @@ use Rattle.qs_tree.specs.Constants.{constant_in}
 use Rattle.qs_tree.specs.Texts.{bits_of}
 use Rattle.qs_tree.specs.Truths.{bin_gives_truth, un_gives_truth}
 use Rattle.qs_const.specs.Codes.{code_of, fault_told}
-use Rattle.qs_const.specs.Outcomes.{fault_of, value_of, without_value}
+use Rattle.qs_const.specs.Outcomes.{fault_of, has_unknown, value_of, without_value}
 use Rattle.qs_const.specs.Operations.{MakesWhole, PairMakes, SignIs}
 
 -- whether a refusal comes before another: it stands before it in the text, or at the same place with a lower code
@@ -42,28 +42,34 @@ own_fault span (Gives v) = None
 own_fault span (Breaks cause) = Some (record { span = span; cause = cause })
 own_fault span Nothing = None
 
--- the value that is made, and where there is none whether the sign tells that it is a truth value
-abbrev pub made_value : Bool → Made → Folded
-made_value truth (Gives v) = Value v
-made_value truth (Breaks cause) = without_value None truth
-made_value truth Nothing = without_value None truth
+-- whether what is made is the refusal of a name without a constant
+abbrev pub is_unknown : Made → Bool
+is_unknown (Breaks NotConst) = true
+is_unknown made = false
+
+-- the value that is made, and where there is none whether the sign tells that it is a truth value, and whether a name without a constant stands in it
+abbrev pub made_value : Bool → Bool → Made → Folded
+made_value truth unknown (Gives v) = Value v
+made_value truth unknown (Breaks cause) = without_value None truth unknown
+made_value truth unknown Nothing = without_value None truth unknown
 
 -- the first refusal, and where there is none what is made
-abbrev pub unless_fault : Bool → Option Fault → Made → Folded
-unless_fault truth None made = made_value truth made
-unless_fault truth (Some fault) made = without_value (Some fault) truth
+abbrev pub unless_fault : Bool → Bool → Option Fault → Made → Folded
+unless_fault truth unknown None made = made_value truth unknown made
+unless_fault truth unknown (Some fault) made = without_value (Some fault) truth unknown
 
--- what an operation at a place comes to that has no operands
+-- what a number or a name at a place comes to
 abbrev pub alone_folded : Span → Made → Folded
-alone_folded span made = unless_fault false (own_fault span made) made
+alone_folded span made = unless_fault false (is_unknown made) (own_fault span made) made
 
--- what one comes to, with what its operand came to
+-- what a name with an index, or an operation, comes to, with what its index or its operand came to
 abbrev pub one_folded : Bool → Span → Made → Folded → Folded
-one_folded truth span made operand = unless_fault truth (first_fault (own_fault span made) (fault_of operand)) made
+one_folded truth span made operand = unless_fault truth (is_unknown made || has_unknown operand) (first_fault (own_fault span made) (fault_of operand)) made
 
--- what one comes to, with what its two operands came to
+-- what an operation comes to, with what its two operands came to
 abbrev pub two_folded : Bool → Span → Made → Folded → Folded → Folded
-two_folded truth span made left right = unless_fault truth (first_fault (first_fault (own_fault span made) (fault_of left)) (fault_of right)) made
+two_folded truth span made left right =
+    unless_fault truth (has_unknown left || has_unknown right) (first_fault (first_fault (own_fault span made) (fault_of left)) (fault_of right)) made
 
 -- ---- names and texts
 
@@ -98,7 +104,7 @@ abbrev pub Folds : List Const → Tree → Folded → Type 0
 Folds consts (Integer span n) f = (made : Made) × MakesWhole (pos n) made × (f ≡ alone_folded span made)
 Folds consts (Fraction q) f = (x : Num) × (x.plain ≡ q) × IsZero x.pi × (f ≡ Value (Number x))
 Folds consts (Given x) f = f ≡ Value (Number x)
-Folds consts (Quoted text) f = f ≡ made_value false (text_made text)
+Folds consts (Quoted text) f = f ≡ made_value false false (text_made text)
 Folds consts (Truthful b) f = f ≡ Value (Truth b)
 Folds consts (Named span name) f = (made : Made) × NameMakes consts name made × (f ≡ alone_folded span made)
 Folds consts (Indexed span name index) f =
@@ -108,7 +114,7 @@ Folds consts (Signed span op operand) f =
     (made : Made) × (x : Folded) × Folds consts operand x × SignIs op (value_of x) made × (f ≡ one_folded (un_gives_truth op) span made x)
 Folds consts (Joined span left op right) f =
     (made : Made) × (x : Folded) × (y : Folded) × Folds consts left x × Folds consts right y × PairMakes op x y made × (f ≡ two_folded (bin_gives_truth op) span made x y)
-Folds consts Other f = f ≡ without_value None false
+Folds consts Other f = f ≡ without_value None false false
 
 -- An outcome is a value or a refusal.
 abbrev pub IsTold : Folded → Type 0

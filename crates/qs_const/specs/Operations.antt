@@ -18,7 +18,7 @@ use Rattle.qs_const.specs.declared.made.Made.{Made}
 use Rattle.qs_const.specs.declared.made.Made.TheVariants.{Gives, Breaks, Nothing}
 use Rattle.qs_const.specs.declared.folded.Folded.{Folded}
 use Rattle.qs_const.specs.declared.folded.Folded.TheVariants.{Value, Absent}
-use Rattle.qs_const.specs.Outcomes.{is_at_run_time, tells_truth, value_of}
+use Rattle.qs_const.specs.Outcomes.{has_unknown, tells_truth, value_of}
 
 -- the cause of a refusal among numbers
 abbrev pub cause_of : NumRefusal → Cause
@@ -209,10 +209,10 @@ IsPower x n r =
 abbrev pub refused_power : Bool → Made
 refused_power refused = if refused then Breaks cause.BadPower else Nothing
 
--- what a part makes to the n-th power: what is no number has none, and at run time no power is built
+-- what a part makes to the n-th power: what is no number has none, and none is built of a name without a constant, which may be a variable
 abbrev pub RaisedIs : Folded → ℕ → Made → Type 0
 RaisedIs (Value (Number x)) n made = (r : Result Num NumRefusal) × IsPower x n r × (made ≡ number_made r)
-RaisedIs left n made = made ≡ refused_power (is_at_run_time left)
+RaisedIs left n made = made ≡ refused_power (has_unknown left)
 
 -- A constant is no exponent.
 abbrev pub IsNoExponent : ConstVal → Type 0
@@ -224,10 +224,10 @@ abbrev pub IsExponent : ConstVal → ℕ → Type 0
 IsExponent (Number y) n = IsCount y n
 IsExponent v n = ⊥
 
--- a power: what isn't a whole number from 0 to 63 is no exponent, whatever is raised to it, and no power is built at run time
+-- a power: what isn't a whole number from 0 to 63 is no exponent, whatever is raised to it, and a power with a name without a constant in it is refused
 abbrev pub PowerMakes : Folded → Folded → Made → Type 0
 PowerMakes left (Value v) made = (IsNoExponent v × (made ≡ Breaks cause.BadPower)) ⊎ ((n : ℕ) × IsExponent v n × RaisedIs left n made)
-PowerMakes left (Absent a) made = made ≡ refused_power (is_at_run_time left || is_at_run_time (Absent a) || tells_truth (Absent a))
+PowerMakes left (Absent a) made = made ≡ refused_power (has_unknown left || a.unknown || a.truth)
 
 -- ---- all of them
 

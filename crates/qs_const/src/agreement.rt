@@ -151,19 +151,25 @@ fn of_wholes(op: BinOp, j: i128, k: i128) -> Made {
     }
 }
 
-/// Whether the first refusal is of a name without a constant.
-fn is_unknown(x: &Outcome) -> bool {
-    match x.fault {
-        Some((_, _, code)) => code == 126,
-        None => false,
+/// Whether an expression reads a name without a constant.
+fn reads(e: &Expr) -> bool {
+    match &e.kind {
+        ExprKind::Name(name) => constant(name.as_str()).is_some_and(|made| made.is_err()),
+        ExprKind::Index(name, index) => {
+            constant(name.as_str()).is_some_and(|made| made.is_err()) || reads(index.get())
+        }
+        ExprKind::Group(inner) | ExprKind::Unary(_, inner) => reads(inner.get()),
+        ExprKind::Binary(left, _, right) => reads(left.get()) || reads(right.get()),
+        _ => false,
     }
 }
 
+/// What a power makes that reads no such name.
 fn raised(x: &Outcome, y: &Outcome) -> Made {
     match (x.value, y.value) {
         (Some(x @ Number(..)), Some(Number((count @ 0..=63, 1), (0, _)))) => power(x, count),
-        (_, Some(Number((0..=63, 1), (0, _)))) if !is_unknown(x) => None,
-        (_, None) if !is_unknown(x) && !is_unknown(y) && !y.truth => None,
+        (_, Some(Number((0..=63, 1), (0, _)))) => None,
+        (_, None) if !y.truth => None,
         _ => Some(Err(125)),
     }
 }
@@ -283,6 +289,7 @@ fn slow(e: &Expr) -> Outcome {
         ExprKind::Binary(left, op, right) => {
             let (x, y) = (slow(left.get()), slow(right.get()));
             let made = match op {
+                Power if reads(e) => Some(Err(125)),
                 Power => raised(&x, &y),
                 _ => y.value.and_then(|y| between(*op, &x, y)),
             };

@@ -1,7 +1,7 @@
 ghost use Rattle.std.specs.Prelude.{◌≡◌};
 ghost use Rattle.std.specs.Option.{option_copied};
 ghost use Rattle.qs_const.specs.Folding.{alone_folded, first_fault, is_before, made_value, one_folded, own_fault, two_folded, unless_fault};
-ghost use Rattle.qs_const.specs.Outcomes.{fault_of, is_at_run_time, tells_truth, value_of};
+ghost use Rattle.qs_const.specs.Outcomes.{fault_of, has_unknown, tells_truth, value_of};
 
 use crate::made::{Cause, Made};
 use qs_tree::ConstVal;
@@ -14,12 +14,13 @@ pub struct Fault {
     pub cause: Cause,
 }
 
-/// What is known of a part without a value: the first refusal in it, where there is one, and
-/// whether its sign tells that it is a truth value.
+/// What is known of a part without a value: the first refusal in it, where there is one, whether
+/// its sign tells that it is a truth value, and whether a name without a constant stands in it.
 #[derive(Clone, Copy, Debug, PartialEq, Eq)]
 pub struct Absent {
     pub fault: Option<Fault>,
     pub truth: bool,
+    pub unknown: bool,
 }
 
 /// What a part of an expression came to.
@@ -76,13 +77,13 @@ impl Folded {
         }
     }
 
-    /// Whether its first refusal is of a name without a constant.
-    pub fn is_at_run_time(&self) -> bool
-        ensures { result ≡ is_at_run_time self.now }
+    /// Whether a name without a constant stands in it.
+    pub fn has_unknown(&self) -> bool
+        ensures { result ≡ has_unknown self.now }
     {
-        match self.fault() {
-            Some(fault) => fault.cause == Cause::NotConst,
-            None => false,
+        match self {
+            Folded::Value(_) => false,
+            Folded::Absent(absent) => absent.unknown,
         }
     }
 }
@@ -111,47 +112,57 @@ fn own_fault(span: Span, made: &Made) -> Option<Fault>
     }
 }
 
-/// The value that is made, and where none is, whether its sign tells a truth value.
-pub fn made_value(truth: bool, made: Made) -> Folded
-    ensures { result ≡ made_value truth made }
+/// The value that is made, and where none is, what is known without it.
+pub fn made_value(truth: bool, unknown: bool, made: Made) -> Folded
+    ensures { result ≡ made_value truth unknown made }
 {
     match made {
         Made::Gives(value) => Folded::Value(value),
-        _ => Folded::Absent(Absent { fault: None, truth }),
+        _ => Folded::Absent(Absent {
+            fault: None,
+            truth,
+            unknown,
+        }),
     }
 }
 
 /// The first refusal, and where there is none what is made.
-fn unless_fault(truth: bool, fault: Option<Fault>, made: Made) -> Folded
-    ensures { result ≡ unless_fault truth fault made }
+fn unless_fault(truth: bool, unknown: bool, fault: Option<Fault>, made: Made) -> Folded
+    ensures { result ≡ unless_fault truth unknown fault made }
 {
     match fault {
-        Some(_) => Folded::Absent(Absent { fault, truth }),
-        None => made_value(truth, made),
+        Some(_) => Folded::Absent(Absent {
+            fault,
+            truth,
+            unknown,
+        }),
+        None => made_value(truth, unknown, made),
     }
 }
 
-/// What an operation at a place comes to that has no operands.
+/// What a number or a name at a place comes to.
 pub fn alone_folded(span: Span, made: Made) -> Folded
     ensures { result ≡ alone_folded span made }
 {
     let fault = own_fault(span, &made);
-    unless_fault(false, fault, made)
+    unless_fault(false, made.is_unknown(), fault, made)
 }
 
-/// What an operation at a place comes to, with what its operand came to.
+/// What a name with an index, or an operation, comes to, with what its index or its operand did.
 pub fn one_folded(truth: bool, span: Span, made: Made, operand: &Folded) -> Folded
     ensures { result ≡ one_folded truth span made operand.now }
 {
     let fault = first_fault(own_fault(span, &made), operand.fault());
-    unless_fault(truth, fault, made)
+    let unknown = made.is_unknown() || operand.has_unknown();
+    unless_fault(truth, unknown, fault, made)
 }
 
-/// What an operation at a place comes to, with what its two operands came to.
+/// What an operation comes to, with what its two operands came to.
 pub fn two_folded(truth: bool, span: Span, made: Made, left: &Folded, right: &Folded) -> Folded
     ensures { result ≡ two_folded truth span made left.now right.now }
 {
     let fault = first_fault(own_fault(span, &made), left.fault());
     let fault = first_fault(fault, right.fault());
-    unless_fault(truth, fault, made)
+    let unknown = left.has_unknown() || right.has_unknown();
+    unless_fault(truth, unknown, fault, made)
 }

@@ -33,7 +33,7 @@ pub fn folded(alloc: Global, e: &Expr, consts: &Consts) -> Result<Folded, AllocE
     match &e.kind {
         ExprKind::Whole(value) => Ok(alone_folded(e.span, whole_made(*value as i128))),
         ExprKind::Decimal(value) => Ok(plain_folded(*value)),
-        ExprKind::Text(text) => Ok(made_value(false, text_made(alloc, text.as_str())?)),
+        ExprKind::Text(text) => Ok(made_value(false, false, text_made(alloc, text.as_str())?)),
         ExprKind::Truth(value) => Ok(Folded::Value(ConstVal::Truth(*value))),
         ExprKind::Name(name) => {
             let made = name_made(alloc, consts, name.as_str())?;
@@ -60,6 +60,7 @@ pub fn folded(alloc: Global, e: &Expr, consts: &Consts) -> Result<Folded, AllocE
         _ => Ok(Folded::Absent(Absent {
             fault: None,
             truth: false,
+            unknown: false,
         })),
     }
 }
@@ -72,7 +73,7 @@ pub fn folded(alloc: Global, e: &Expr, consts: &Consts) -> Result<Folded, AllocE
 /// # Errors
 /// The first refusal in the order of the text, at the first token of the part that is refused: of
 /// two at one place that with the lower code. `NotConst` stands at a name without a constant, and
-/// `BadPower` at a power of one. `Memory` for want of memory.
+/// `BadPower` at a power with one in an operand. `Memory` for want of memory.
 pub fn fold(alloc: Global, e: &Expr, consts: &Consts) -> Result<ConstVal, ConstRefusal>
     requires { IsFoldable e.now consts.now }
     ensures { FoldIs e.now consts.now result }

@@ -39,3 +39,17 @@ pub enum Made {
     Breaks(Cause),
     Nothing,
 }
+
+impl Made {
+    ghost use Rattle.qs_const.specs.Folding.{is_unknown};
+
+    /// Whether it is the refusal of a name without a constant.
+    pub fn is_unknown(&self) -> bool
+        ensures { result ≡ is_unknown self.now }
+    {
+        match self {
+            Made::Breaks(Cause::NotConst) => true,
+            _ => false,
+        }
+    }
+}

@@ -8,8 +8,8 @@ use qs_tree::ConstVal;
 use qs_values::{Frac, Num, NumRefusal};
 
 /// A number to a power. Whatever the number is, an exponent that can't be a whole number from 0 to
-/// 63 is `BadPower`, and so is a power at run time: one with an operand that is refused first for a
-/// name without a constant. Other operands make nothing.
+/// 63 is `BadPower`, and so is a power at run time: one with a name without a constant in an
+/// operand. Other operands make nothing.
 pub fn power_made(left: &Folded, right: &Folded) -> Made
     ensures { PowerMakes left.now right.now result }
 {
@@ -18,9 +18,7 @@ pub fn power_made(left: &Folded, right: &Folded) -> Made
             Some(n) => raised(left, n),
             None => Made::Breaks(Cause::BadPower),
         },
-        Folded::Absent(_) => refused_power(
-            left.is_at_run_time() || right.is_at_run_time() || right.tells_truth(),
-        ),
+        Folded::Absent(right) => refused_power(left.has_unknown() || right.unknown || right.truth),
     }
 }
 
@@ -41,7 +39,7 @@ fn raised(left: &Folded, n: u32) -> Made
 {
     match left {
         Folded::Value(ConstVal::Number(x)) => number_made(power(x, n)),
-        _ => refused_power(left.is_at_run_time()),
+        _ => refused_power(left.has_unknown()),
     }
 }
 

@@ -18,8 +18,8 @@ pub enum ConstRefusal {
     ByZero { span: Span },
     /// A divisor with pi, but for a quotient of two multiples of pi alone.
     ByPi { span: Span },
-    /// An exponent that isn't a whole constant from 0 to 63, or a power at run time: one with an
-    /// operand that is refused first for a name without a constant.
+    /// An exponent that isn't a whole constant from 0 to 63, or a power at run time: one with a
+    /// name without a constant in an operand.
     BadPower { span: Span },
     /// A name without a constant.
     NotConst { span: Span },
