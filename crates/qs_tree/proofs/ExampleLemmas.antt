@@ -16,7 +16,7 @@ use Rattle.qs_tree.specs.declared.expr.TypeExpr.{TypeExpr}
 use Rattle.qs_tree.specs.declared.expr.ExprKind.TheOpen as layer
 use Rattle.qs_tree.specs.declared.expr.ExprKind.TheVariants.{Whole, Decimal, Time, Text, Truth, Name, Index, Physical, Call, Cast, Group, Unary, Binary, Number, rolls-Whole, rolls-Decimal, rolls-Time, rolls-Text, rolls-Truth, rolls-Name, rolls-Index, rolls-Physical, rolls-Call, rolls-Cast, rolls-Group, rolls-Unary, rolls-Binary, rolls-Number}
 use Rattle.qs_tree.specs.declared.expr.ExprKind.TheFolds.{fold-Expr, fold-TypeExpr, fold-roll-ExprKind, fold-roll-TypeExpr, fold_out-Expr}
-use Rattle.qs_tree.specs.Spelling.{Seen, Word, Sign, Quoted, Qubit, Integer, Fraction, Period, enclosed, expr_step, kind_step, seen_by, sign_of_bin, sign_of_un, signed, spell, spell_kind, truth_word, type_step, width_tokens, with_commas, word_of_type}
+use Rattle.qs_tree.specs.Spelling.{Seen, Word, Sign, Quoted, Qubit, Integer, Fraction, Period, enclosed, expr_step, kind_step, seen_by, sign_of_bin, sign_of_un, sign_alone, spell, spell_kind, truth_word, type_step, width_tokens, with_commas, word_of_type}
 use Rattle.qs_tree.specs.Example.{a, calls, calls_tokens, casts, casts_tokens, placed, power, power_tokens, typed}
 
 -- ---- one layer
@@ -76,11 +76,11 @@ spell-Group : (inner : Expr) → spell_kind (Group inner) ≡ enclosed (codes "(
 spell-Group inner =
     ap spell_kind (sym (rolls-Group inner)) ∙ fold-roll-ExprKind (List Seen) (List Seen) (List Seen) kind_step expr_step type_step (layer.Group inner) ∙ rw (spelled inner) refl
 
-spell-Unary : (op : UnOp) (operand : Expr) → spell_kind (Unary op operand) ≡ signed (sign_of_un op) ++ spell operand
+spell-Unary : (op : UnOp) (operand : Expr) → spell_kind (Unary op operand) ≡ sign_alone (sign_of_un op) ++ spell operand
 spell-Unary op operand =
     ap spell_kind (sym (rolls-Unary op operand)) ∙ fold-roll-ExprKind (List Seen) (List Seen) (List Seen) kind_step expr_step type_step (layer.Unary op operand) ∙ rw (spelled operand) refl
 
-spell-Binary : (left : Expr) (op : BinOp) (right : Expr) → spell_kind (Binary left op right) ≡ spell left ++ signed (sign_of_bin op) ++ spell right
+spell-Binary : (left : Expr) (op : BinOp) (right : Expr) → spell_kind (Binary left op right) ≡ spell left ++ sign_alone (sign_of_bin op) ++ spell right
 spell-Binary left op right =
     ap spell_kind (sym (rolls-Binary left op right)) ∙ fold-roll-ExprKind (List Seen) (List Seen) (List Seen) kind_step expr_step type_step (layer.Binary left op right) ∙ rw (spelled left, spelled right) refl
 

@@ -1,10 +1,11 @@
 -- The constants that an expression may name. This project's own.
-use Rattle.std.specs.Prelude.{ℕ, List, [], ◌∷◌, if◌then◌else◌, Option, Some, None}
+use Rattle.std.specs.Prelude.{ℕ, List, Option}
+use Rattle.std.specs.List.{find}
+use Rattle.std.specs.Option.{option_map}
 use Rattle.std.specs.Str.{bytes_eq}
 use Rattle.qs_tree.specs.declared.constant.Const.{Const}
 use Rattle.qs_tree.specs.declared.constant.ConstVal.{ConstVal}
 
 -- the constant of a name: the first counts
 abbrev pub constant_in : List Const → List ℕ → Option ConstVal
-constant_in [] name = None
-constant_in (c ∷ cs) name = if bytes_eq c.name name then Some c.value else constant_in cs name
+constant_in consts name = option_map (λ c. c.value) (find (λ c. bytes_eq c.name name) consts)

@@ -41,13 +41,13 @@ seen_by kind.Sign text = Sign text
 abbrev pub seen : Token → Seen
 seen t = seen_by t.kind t.text
 
--- the sign before an operand
+-- the sign that spells an operator before its operand
 abbrev pub sign_of_un : UnOp → List ℕ
 sign_of_un Not = codes "!"
 sign_of_un Neg = codes "-"
 sign_of_un Invert = codes "~"
 
--- the sign between two operands
+-- the sign that spells an operator between its operands
 abbrev pub sign_of_bin : BinOp → List ℕ
 sign_of_bin Power = codes "**"
 sign_of_bin Mul = codes "*"
@@ -84,17 +84,17 @@ truth_word true = codes "true"
 truth_word false = codes "false"
 
 -- a sign alone
-abbrev pub signed : List ℕ → List Seen
-signed text = Sign text ∷ []
+abbrev pub sign_alone : List ℕ → List Seen
+sign_alone text = Sign text ∷ []
 
 -- tokens in brackets of two signs
 abbrev pub enclosed : List ℕ → List Seen → List ℕ → List Seen
-enclosed before inner after = signed before ++ inner ++ signed after
+enclosed before inner after = sign_alone before ++ inner ++ sign_alone after
 
 -- lists of tokens, each but the first behind a comma
 abbrev pub behind_commas : List (List Seen) → List Seen
 behind_commas [] = []
-behind_commas (x ∷ xs) = signed (codes ",") ++ x ++ behind_commas xs
+behind_commas (x ∷ xs) = sign_alone (codes ",") ++ x ++ behind_commas xs
 
 -- lists of tokens with commas between them
 abbrev pub with_commas : List (List Seen) → List Seen
@@ -114,8 +114,8 @@ kind_step (Physical number) = Qubit number ∷ []
 kind_step (Call name args) = Word name ∷ enclosed (codes "(") (with_commas args) (codes ")")
 kind_step (Cast type operand) = type ++ enclosed (codes "(") operand (codes ")")
 kind_step (Group inner) = enclosed (codes "(") inner (codes ")")
-kind_step (Unary op operand) = signed (sign_of_un op) ++ operand
-kind_step (Binary left op right) = left ++ signed (sign_of_bin op) ++ right
+kind_step (Unary op operand) = sign_alone (sign_of_un op) ++ operand
+kind_step (Binary left op right) = left ++ sign_alone (sign_of_bin op) ++ right
 kind_step (Number value) = []
 
 -- the width of a type in its brackets, where it has one

@@ -12,7 +12,8 @@ pub enum ConstVal {
     Number(Num),
     /// A truth value.
     Truth(bool),
-    /// The digits of a text, `0` and `1` alone, the highest first.
+    /// The digits of a text, the highest first. `bits_of` makes them, from 1 to 64 digits `0` and
+    /// `1`; the type holds nobody to that.
     Bits(Name),
 }
 

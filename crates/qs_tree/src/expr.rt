@@ -17,9 +17,9 @@ pub struct Expr {
 pub enum ExprKind {
     /// A whole number.
     Whole(u64),
-    /// A number with a point or an exponent.
+    /// A number with a point or an exponent, cut to 17 decimals.
     Decimal(Frac),
-    /// A time.
+    /// A time: the number before its unit, cut to 17 decimals, in that unit.
     Time(Frac, Unit),
     /// A text, as it stands in the source, with its quotes.
     Text(Name),
@@ -37,9 +37,9 @@ pub enum ExprKind {
     Cast(TypeExpr, Boxed<Expr>),
     /// An expression in brackets.
     Group(Boxed<Expr>),
-    /// A sign and its operand.
+    /// An operator and its operand.
     Unary(UnOp, Boxed<Expr>),
-    /// Two operands with a sign between.
+    /// Two operands with an operator between.
     Binary(Boxed<Expr>, BinOp, Boxed<Expr>),
     /// A constant that is put in for a parameter; no source spells it.
     Number(Num),

@@ -1,7 +1,7 @@
 ghost use Rattle.std.specs.Prelude.{◌≡◌};
 ghost use Rattle.qs_tree.specs.Truths.{bin_gives_truth, un_gives_truth};
 
-/// A sign before its operand.
+/// An operator before its operand.
 #[derive(Clone, Copy, Debug, PartialEq, Eq)]
 pub enum UnOp {
     /// `!`
@@ -24,7 +24,7 @@ impl UnOp {
     }
 }
 
-/// A sign between its operands, from the tightest to the loosest.
+/// An operator between its operands, from the tightest to the loosest.
 #[derive(Clone, Copy, Debug, PartialEq, Eq)]
 pub enum BinOp {
     /// `**`, which groups to the right; all others group to the left.
