@@ -6,15 +6,16 @@ use Rattle.qs_values.specs.declared.span.Span.{Span}
 use Rattle.qs_values.specs.declared.number.Frac.{Frac}
 use Rattle.qs_values.specs.declared.number.Num.{Num}
 use Rattle.qs_values.specs.Number.{IsFrac, NumberIs}
-use Rattle.qs_values.specs.declared.refusal.NumRefusal.TheVariants.{ByZero as NoDivisor}
+use Rattle.qs_values.specs.declared.refusal.NumRefusal.TheVariants.{ByZero, ByPi}
 use Rattle.qs_tree.specs.declared.constant.ConstVal.TheVariants.{Number, Truth}
 use Rattle.qs_tree.specs.declared.operator.UnOp.TheVariants.{Neg, Not}
 use Rattle.qs_tree.specs.declared.operator.BinOp.TheVariants.{Add, Div, Power}
-use Rattle.qs_const.specs.declared.made.Cause.TheVariants.{ByZero, ByPi, BadPower, NotConst}
+use Rattle.qs_const.specs.declared.made.Cause.TheVariants.{BadPower, NotConst}
+use Rattle.qs_const.specs.declared.made.Cause.TheVariants as cause
 use Rattle.qs_const.specs.declared.made.Made.TheVariants.{Gives, Breaks, Nothing}
 use Rattle.qs_const.specs.declared.folded.Folded.{Folded}
 use Rattle.qs_const.specs.declared.folded.Folded.TheVariants.{Value}
-use Rattle.qs_const.specs.Trees.{Integer, Truthful, Named, Signed, Joined}
+use Rattle.qs_const.specs.Trees.{Integer, Truthful, Named, Unary, Binary}
 use Rattle.qs_const.specs.Folding.{Folds, times_pi}
 use Rattle.qs_const.specs.Outcomes.{without_value}
 
@@ -43,9 +44,9 @@ unknown col = without_value (Some (record { span = at col; cause = NotConst })) 
 
 -- `z / 0`, without a constant z: the lower code at one place
 lower_code : (x : Num) → IsFrac (pos 0) (pos 1) x.plain → IsFrac (pos 0) (pos 1) x.pi →
-    Folds [] (Joined (at 1) (Named (at 1) (codes "z")) Div (Integer (at 5) 0)) (without_value (Some (record { span = at 1; cause = ByZero })) false true)
+    Folds [] (Binary (at 1) (Named (at 1) (codes "z")) Div (Integer (at 5) 0)) (without_value (Some (record { span = at 1; cause = cause.Number ByZero })) false true)
 lower_code x plain pi = (
-  Breaks ByZero,
+  Breaks (cause.Number ByZero),
   unknown 1,
   Value (Number x),
   (Breaks NotConst, refl, refl),
@@ -56,19 +57,19 @@ lower_code x plain pi = (
 
 -- `z + 1 / 0`: the name stands first
 first_place : (x y : Num) → NumberIs (pos 0) (pos 1) (pos 0) (pos 1) (Ok x) → NumberIs (pos 1) (pos 1) (pos 0) (pos 1) (Ok y) →
-    Folds [] (Joined (at 1) (Named (at 1) (codes "z")) Add (Joined (at 5) (Integer (at 5) 1) Div (Integer (at 9) 0))) (unknown 1)
+    Folds [] (Binary (at 1) (Named (at 1) (codes "z")) Add (Binary (at 5) (Integer (at 5) 1) Div (Integer (at 9) 0))) (unknown 1)
 first_place x y zero one = (
   Nothing,
   unknown 1,
-  without_value (Some (record { span = at 5; cause = ByZero })) false false,
+  without_value (Some (record { span = at 5; cause = cause.Number ByZero })) false false,
   (Breaks NotConst, refl, refl),
   (
-    Breaks ByZero,
+    Breaks (cause.Number ByZero),
     Value (Number y),
     Value (Number x),
     (Gives (Number y), (Ok y, one, refl), refl),
     (Gives (Number x), (Ok x, zero, refl), refl),
-    (Err NoDivisor, inr (inl (is_zero x.pi zero.1, is_zero x.plain zero.0, refl)), refl),
+    (Err ByZero, inr (inl (is_zero x.pi zero.1, is_zero x.plain zero.0, refl)), refl),
     refl,
   ),
   refl,
@@ -77,7 +78,7 @@ first_place x y zero one = (
 
 -- `1 ** z`: a power at run time, refused at its first token
 at_run_time : (x : Num) → NumberIs (pos 1) (pos 1) (pos 0) (pos 1) (Ok x) →
-    Folds [] (Joined (at 1) (Integer (at 1) 1) Power (Named (at 6) (codes "z"))) (without_value (Some (record { span = at 1; cause = BadPower })) false true)
+    Folds [] (Binary (at 1) (Integer (at 1) 1) Power (Named (at 6) (codes "z"))) (without_value (Some (record { span = at 1; cause = BadPower })) false true)
 at_run_time x one = (
   Breaks BadPower,
   Value (Number x),
@@ -90,9 +91,9 @@ at_run_time x one = (
 
 -- `!z / pi`: no truth value is a multiple of pi
 no_multiple : (x : Num) → NumberIs (pos 0) (pos 1) (pos 1) (pos 1) (Ok x) →
-    Folds [] (Joined (at 1) (Signed (at 1) Not (Named (at 2) (codes "z"))) Div (Named (at 6) (codes "pi"))) (without_value (Some (record { span = at 1; cause = ByPi })) false true)
+    Folds [] (Binary (at 1) (Unary (at 1) Not (Named (at 2) (codes "z"))) Div (Named (at 6) (codes "pi"))) (without_value (Some (record { span = at 1; cause = cause.Number ByPi })) false true)
 no_multiple x one = (
-  Breaks ByPi,
+  Breaks (cause.Number ByPi),
   without_value (Some (record { span = at 2; cause = NotConst })) true true,
   Value (Number x),
   (Nothing, unknown 2, (Breaks NotConst, refl, refl), refl, refl),
@@ -102,5 +103,5 @@ no_multiple x one = (
 )
 
 -- `-true` has no value, and none of the codes is its
-neither : Folds [] (Signed (at 1) Neg (Truthful true)) (without_value None false false)
+neither : Folds [] (Unary (at 1) Neg (Truthful true)) (without_value None false false)
 neither = (Nothing, Value (Truth true), refl, refl, refl)

@@ -15,7 +15,7 @@ use Rattle.qs_const.specs.declared.made.Made.{Made}
 use Rattle.qs_const.specs.declared.folded.Folded.{Folded}
 use Rattle.qs_const.specs.declared.folded.Folded.TheVariants.{Value, Absent}
 use Rattle.qs_const.specs.Outcomes.{value_of}
-use Rattle.qs_const.specs.Operations.{AlikeMakes, ByResult, DividesOther, HasNoQuotient, IsCount, IsExponent, IsNoExponent, IsNothing, IsNotWhole, IsOutside, IsPower, IsPowerWithPi, IsWhole, MakesNumber, MakesWhole, MayHaveQuotient, OfNumbers, OfWholes, OnWholes, PairMakes, PowerMakes, QuotientMakes, RaisedIs, RemainderMakes, Remains, ShiftMakes, ShiftedIs, ShiftsDown, ShiftsUp, SignIs, WholesMake, number_made}
+use Rattle.qs_const.specs.Operations.{AlikeMakes, ByResult, DividesOther, HasNoQuotient, IsCount, IsExponent, IsNoExponent, IsZeroNumber, IsNotWhole, IsNotFrom0To63, IsPower, IsPowerWithPi, IsWhole, MakesNumber, MakesWhole, MayHaveQuotient, OfNumbers, OfWholes, OnWholes, PairMakes, PowerMakes, QuotientMakes, RaisedIs, RemainderMakes, Remains, ShiftMakes, ShiftedIs, ShiftsDown, ShiftsUp, UnaryIs, WholesMake, number_made}
 use Rattle.qs_const.proofs.PowerLemmas.{nonzero_pow}
 use Rattle.qs_values.proofs.NumberLemmas.{nonzero_den}
 use Rattle.qs_values.proofs.OneNumber.{difference_once, number_once, one_nonzero, product_once, ratio_once, sum_once}
@@ -39,27 +39,27 @@ whole_not : (x : Num) (k : ℤ) → IsWhole x k → IsNotWhole x → ⊥
 whole_not x k h (inl p) = p h.0
 whole_not x k h (inr p) = p h.1
 
--- ---- signs before an operand
+-- ---- operators before an operand
 
-inverts : (x : Num) → Once (SignIs Invert (Some (Number x)))
+inverts : (x : Num) → Once (UnaryIs Invert (Some (Number x)))
 inverts x m n (inl (j, a, h)) (inl (k, b, i)) = makes_whole _ m n h (subst (λ z. MakesWhole ((pos 0 -ℤ z) -ℤ pos 1) n) (whole_is x k j b a) i)
 inverts x m n (inl (j, a, h)) (inr (parted, e)) = absurd (whole_not x j a parted)
 inverts x m n (inr (parted, e)) (inl (k, b, i)) = absurd (whole_not x k b parted)
 inverts x m n (inr (parted, e)) (inr (also, f)) = e ∙ sym f
 
-pub sign_once : (op : UnOp) (v : Option ConstVal) → Once (SignIs op v)
-sign_once op None m n p q = p ∙ sym q
-sign_once Neg (Some (Number x)) m n p q = makes_number _ _ _ _ (nonzero_den x.plain) (nonzero_den x.pi) m n p q
-sign_once Neg (Some (Truth b)) m n p q = p ∙ sym q
-sign_once Neg (Some (Bits b)) m n p q = p ∙ sym q
-sign_once Invert (Some (Number x)) m n p q = inverts x m n p q
-sign_once Invert (Some (Truth b)) m n p q = p ∙ sym q
-sign_once Invert (Some (Bits b)) m n p q = p ∙ sym q
-sign_once Not (Some (Number x)) m n p q = p ∙ sym q
-sign_once Not (Some (Truth b)) m n p q = p ∙ sym q
-sign_once Not (Some (Bits b)) m n p q = p ∙ sym q
+pub unary_once : (op : UnOp) (v : Option ConstVal) → Once (UnaryIs op v)
+unary_once op None m n p q = p ∙ sym q
+unary_once Neg (Some (Number x)) m n p q = makes_number _ _ _ _ (nonzero_den x.plain) (nonzero_den x.pi) m n p q
+unary_once Neg (Some (Truth b)) m n p q = p ∙ sym q
+unary_once Neg (Some (Bits b)) m n p q = p ∙ sym q
+unary_once Invert (Some (Number x)) m n p q = inverts x m n p q
+unary_once Invert (Some (Truth b)) m n p q = p ∙ sym q
+unary_once Invert (Some (Bits b)) m n p q = p ∙ sym q
+unary_once Not (Some (Number x)) m n p q = p ∙ sym q
+unary_once Not (Some (Truth b)) m n p q = p ∙ sym q
+unary_once Not (Some (Bits b)) m n p q = p ∙ sym q
 
--- ---- signs between operands of one kind
+-- ---- operators between operands of one kind
 
 of_numbers : (Makes : Num → Num → Made → Type 0) → ((x y : Num) → Once (Makes x y)) → (left right : Option ConstVal) → Once (OfNumbers Makes left right)
 of_numbers Makes once None right m n p q = p ∙ sym q
@@ -118,7 +118,7 @@ of_alike op (Some (Truth a)) (Some (Truth b)) m n p q = p ∙ sym q
 -- ---- quotients and remainders
 
 -- a divisor that refuses a dividend isn't 0, and has no quotient
-refuses_nothing : (left : Folded) (y : Num) → HasNoQuotient left y → IsNothing y → ⊥
+refuses_nothing : (left : Folded) (y : Num) → HasNoQuotient left y → IsZeroNumber y → ⊥
 refuses_nothing (Value v) y h none = h none.1
 refuses_nothing (Absent a) y h none = h.0 none.1
 
@@ -186,7 +186,7 @@ shifted_once Shifts once (Some (Number x)) n m o (inl (j, a, h)) (inr (parted, f
 shifted_once Shifts once (Some (Number x)) n m o (inr (parted, e)) (inl (k, b, g)) = absurd (whole_not x k b parted)
 shifted_once Shifts once (Some (Number x)) n m o (inr (parted, e)) (inr (also, f)) = e ∙ sym f
 
-count_not_outside : (y : Num) (n : ℕ) → IsOutside y → IsCount y n → ⊥
+count_not_outside : (y : Num) (n : ℕ) → IsNotFrom0To63 y → IsCount y n → ⊥
 count_not_outside y n (pi, inl low) count = omega (arith, ints, count.0.2, low)
 count_not_outside y n (pi, inr high) count = omega (arith, ints, count.0.1, count.0.2, high, count.1)
 

@@ -11,11 +11,11 @@ use Rattle.qs_const.specs.declared.folded.Folded.TheVariants.{Value}
 use Rattle.qs_tree.specs.Constants.{constant_in}
 use Rattle.qs_tree.specs.Truths.{bin_gives_truth, un_gives_truth}
 use Rattle.qs_const.specs.Outcomes.{value_of}
-use Rattle.qs_const.specs.Trees.{Tree, Integer, Fraction, Given, Quoted, Truthful, Named, Indexed, Enclosed, Signed, Joined, Other, tree_of}
+use Rattle.qs_const.specs.Trees.{Tree, Integer, Fraction, Given, Quoted, Truthful, Named, Indexed, Enclosed, Unary, Binary, Other, tree_of}
 use Rattle.qs_const.specs.Folding.{Folds, IndexMakes, IsFoldable, IsTold, NameMakes, alone_folded, one_folded, times_pi, two_folded}
-use Rattle.qs_const.specs.Operations.{PairMakes, SignIs}
+use Rattle.qs_const.specs.Operations.{PairMakes, UnaryIs}
 use Rattle.qs_values.proofs.OneNumber.{number_once, one_nonzero, one_zero, same_number}
-use Rattle.qs_const.proofs.OneMade.{Once, makes_whole, pair_once, sign_once}
+use Rattle.qs_const.proofs.OneMade.{Once, makes_whole, pair_once, unary_once}
 
 -- ---- names
 
@@ -62,11 +62,11 @@ folds_once consts (Indexed span name index) f g (m, i, p, a, e) (n, j, q, b, d) 
     let inner = folds_once consts index i j a b in
     e ∙ ap (λ z. one_folded false span z i) made ∙ ap (one_folded false span n) inner ∙ sym d
 folds_once consts (Enclosed inner) f g a b = folds_once consts inner f g a b
-folds_once consts (Signed span op operand) f g (m, x, a, p, e) (n, y, b, q, d) =
+folds_once consts (Unary span op operand) f g (m, x, a, p, e) (n, y, b, q, d) =
     let inner = folds_once consts operand x y a b in
-    let made = sign_once op (value_of y) m n (subst (λ z. SignIs op (value_of z) m) inner p) q in
+    let made = unary_once op (value_of y) m n (subst (λ z. UnaryIs op (value_of z) m) inner p) q in
     e ∙ ap (λ z. one_folded (un_gives_truth op) span z x) made ∙ ap (one_folded (un_gives_truth op) span n) inner ∙ sym d
-folds_once consts (Joined span left op right) f g (m, x, y, a, b, p, e) (n, z, w, c, o, q, d) =
+folds_once consts (Binary span left op right) f g (m, x, y, a, b, p, e) (n, z, w, c, o, q, d) =
     let first = folds_once consts left x z a c in
     let second = folds_once consts right y w b o in
     let made = pair_once op z w m n (subst (λ u. PairMakes op u w m) first (subst (λ u. PairMakes op x u m) second p)) q in

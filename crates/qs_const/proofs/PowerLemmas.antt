@@ -15,17 +15,11 @@ use Rattle.qs_values.proofs.NumberLemmas.{nonzero_den, nonzero_product}
 use Rattle.qs_values.proofs.OneNumber.{number_once, one_nonzero}
 use Rattle.qs_values.proofs.OneQuotient.{cancelled, same_lowest}
 use Rattle.qs_const.specs.Operations.{IsPower, IsPowerWithPi}
-use Rattle.qs_const.proofs.SmallNumbers.{is_whole_frac}
+use Rattle.qs_const.proofs.SmallNumbers.{is_whole_frac, mul_one, zero_mul}
 use Rattle.qs_const.proofs.WholePowers.{abs_int_pow, coprime_powers, int_pow_suc, int_pow_zero, large_from}
 
 mul_comm : (a b : ℤ) → a *ℤ b ≡ b *ℤ a
 mul_comm a b = same_in _ _ (simp (up-mul, down-mul) (omega arith))
-
-zero_mul : (a : ℤ) → pos 0 *ℤ a ≡ pos 0
-zero_mul a = same_in _ _ (simp (up-mul, down-mul) (omega arith))
-
-one_mul : (a : ℤ) → a *ℤ pos 1 ≡ a
-one_mul a = same_in _ _ (simp (up-mul, down-mul) (omega arith))
 
 pub zero_or_not : (z : ℤ) → (z ≡ pos 0) ⊎ (z ≢ pos 0)
 zero_or_not (pos zero) = inl refl
@@ -62,7 +56,7 @@ whole_parts k g h = same_lowest _ _ _ _ _ _ one_nonzero h (record { same = refl;
 zero_lowest : (d p q : ℤ) → d ≢ pos 0 → IsLowest (pos 0) d p q → IsLowest (pos 0) (pos 1) p q
 zero_lowest d p q nonzero h =
     let none : p ≡ pos 0 = cancelled p (pos 0) d nonzero (h.same ∙ zero_mul q ∙ sym (zero_mul d)) in
-    record { same = one_mul p ∙ none ∙ sym (zero_mul q); above = h.above; coprime = h.coprime }
+    record { same = mul_one p ∙ none ∙ sym (zero_mul q); above = h.above; coprime = h.coprime }
 
 without_pi : (n d e : ℤ) (r : Result Num NumRefusal) → e ≢ pos 0 → NumberIs n d (pos 0) e r → NumberIs n d (pos 0) (pos 1) r
 without_pi n d e (Ok y) nonzero h = (h.0, zero_lowest e y.pi.num y.pi.den nonzero h.1)
@@ -99,7 +93,7 @@ plain_next x before n r zero_pi is (inr (inr (p, q, e))) = absurd (q zero_pi)
 
 -- 1 times a number is that number
 same_frac : (f : Frac) (a b : ℤ) → a ≡ pos 1 → b ≡ pos 1 → IsFrac (f.num *ℤ a) (f.den *ℤ b) f
-same_frac f a b p q = record { same = rw (p, q, one_mul f.num, one_mul f.den) refl; above = f.above; coprime = f.coprime }
+same_frac f a b p q = record { same = rw (p, q, mul_one f.num, mul_one f.den) refl; above = f.above; coprime = f.coprime }
 
 pi_next : (x before : Num) (n : ℕ) (r : Result Num NumRefusal) → x.pi.num ≢ pos 0 → IsPowerWithPi x n (Ok before) → ProductIs before x r → IsPowerWithPi x (suc n) r
 pi_next x before n r pi is (inl (none, h)) = absurd (pi none)

@@ -16,7 +16,7 @@ use Rattle.qs_const.specs.Operations.{IsNotWhole, MakesWhole, OfWholes}
 use Rattle.qs_const.specs.Wholes.{OperandIs}
 
 -- what a refused quotient by 1 makes
-pub whole_refused : (k : ℤ) (e : NumRefusal) → QuotientIs k (pos 1) (Err e) → MakesWhole k (Breaks cause.TooWide)
+pub whole_refused : (k : ℤ) (e : NumRefusal) → QuotientIs k (pos 1) (Err e) → MakesWhole k (Breaks (cause.Number TooWide))
 whole_refused k TooWide h = (Err TooWide, inl h.1, refl)
 whole_refused k ByZero h = absurd cc
 whole_refused k PiTimesPi h = absurd h

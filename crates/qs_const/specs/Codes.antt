@@ -1,5 +1,7 @@
 -- The numbers of the refusals of constant expressions, and their places. This project's own.
 use Rattle.std.specs.Prelude.{ℕ, Option, Some, None}
+use Rattle.qs_values.specs.Number.{code_of as number_code}
+use Rattle.qs_values.specs.declared.refusal.NumRefusal.TheVariants as number
 use Rattle.qs_const.specs.declared.made.Cause.{Cause}
 use Rattle.qs_const.specs.declared.made.Cause.TheVariants as cause
 use Rattle.qs_const.specs.declared.folded.Fault.{Fault}
@@ -8,19 +10,16 @@ use Rattle.qs_const.specs.declared.refusal.ConstRefusal.TheVariants.{TooWide, Pi
 
 -- the number of a cause
 abbrev pub code_of : Cause → ℕ
-code_of cause.TooWide = 121
-code_of cause.PiTimesPi = 122
-code_of cause.ByZero = 123
-code_of cause.ByPi = 124
+code_of (cause.Number refusal) = number_code refusal
 code_of cause.BadPower = 125
 code_of cause.NotConst = 126
 
 -- the fault that a refusal tells: want of memory tells none
 abbrev pub fault_told : ConstRefusal → Option Fault
-fault_told (TooWide span) = Some (record { span = span; cause = cause.TooWide })
-fault_told (PiTimesPi span) = Some (record { span = span; cause = cause.PiTimesPi })
-fault_told (ByZero span) = Some (record { span = span; cause = cause.ByZero })
-fault_told (ByPi span) = Some (record { span = span; cause = cause.ByPi })
+fault_told (TooWide span) = Some (record { span = span; cause = cause.Number number.TooWide })
+fault_told (PiTimesPi span) = Some (record { span = span; cause = cause.Number number.PiTimesPi })
+fault_told (ByZero span) = Some (record { span = span; cause = cause.Number number.ByZero })
+fault_told (ByPi span) = Some (record { span = span; cause = cause.Number number.ByPi })
 fault_told (BadPower span) = Some (record { span = span; cause = cause.BadPower })
 fault_told (NotConst span) = Some (record { span = span; cause = cause.NotConst })
 fault_told Memory = None

@@ -16,13 +16,13 @@ use Rattle.qs_const.specs.declared.folded.Fault.{Fault}
 use Rattle.qs_const.specs.declared.folded.Folded.{Folded}
 use Rattle.qs_const.specs.declared.folded.Folded.TheVariants.{Value, Absent}
 use Rattle.qs_const.specs.declared.refusal.ConstRefusal.{ConstRefusal}
-use Rattle.qs_const.specs.Trees.{Tree, Integer, Fraction, Given, Quoted, Truthful, Named, Indexed, Enclosed, Signed, Joined, Other, tree_of}
+use Rattle.qs_const.specs.Trees.{Tree, Integer, Fraction, Given, Quoted, Truthful, Named, Indexed, Enclosed, Unary, Binary, Other, tree_of}
 use Rattle.qs_tree.specs.Constants.{constant_in}
 use Rattle.qs_tree.specs.Texts.{bits_of}
 use Rattle.qs_tree.specs.Truths.{bin_gives_truth, un_gives_truth}
 use Rattle.qs_const.specs.Codes.{code_of, fault_told}
 use Rattle.qs_const.specs.Outcomes.{fault_of, has_unknown, value_of, without_value}
-use Rattle.qs_const.specs.Operations.{MakesWhole, PairMakes, SignIs}
+use Rattle.qs_const.specs.Operations.{MakesWhole, PairMakes, UnaryIs}
 
 -- whether a refusal comes before another: it stands before it in the text, or at the same place with a lower code
 abbrev pub is_before : Fault → Fault → Bool
@@ -47,7 +47,7 @@ abbrev pub is_unknown : Made → Bool
 is_unknown (Breaks NotConst) = true
 is_unknown made = false
 
--- the value that is made, and where there is none whether the sign tells that it is a truth value, and whether a name without a constant stands in it
+-- the value that is made, and where there is none whether the operator tells that it is a truth value, and whether a name without a constant stands in it
 abbrev pub made_value : Bool → Bool → Made → Folded
 made_value truth unknown (Gives v) = Value v
 made_value truth unknown (Breaks cause) = without_value None truth unknown
@@ -110,9 +110,9 @@ Folds consts (Named span name) f = (made : Made) × NameMakes consts name made �
 Folds consts (Indexed span name index) f =
     (made : Made) × (i : Folded) × IndexMakes consts name made × Folds consts index i × (f ≡ one_folded false span made i)
 Folds consts (Enclosed inner) f = Folds consts inner f
-Folds consts (Signed span op operand) f =
-    (made : Made) × (x : Folded) × Folds consts operand x × SignIs op (value_of x) made × (f ≡ one_folded (un_gives_truth op) span made x)
-Folds consts (Joined span left op right) f =
+Folds consts (Unary span op operand) f =
+    (made : Made) × (x : Folded) × Folds consts operand x × UnaryIs op (value_of x) made × (f ≡ one_folded (un_gives_truth op) span made x)
+Folds consts (Binary span left op right) f =
     (made : Made) × (x : Folded) × (y : Folded) × Folds consts left x × Folds consts right y × PairMakes op x y made × (f ≡ two_folded (bin_gives_truth op) span made x y)
 Folds consts Other f = f ≡ without_value None false false
 

@@ -1,5 +1,7 @@
 -- The operations on constants, case by case (OpenQASM 3.0, constant expressions, in this project's exact profile).
 use Rattle.std.specs.Prelude.{◌≡◌, ◌≢◌, ◌⊎◌, ℕ, ◌≤◌, ◌^◌, ℤ, pos, ◌+ℤ◌, ◌-ℤ◌, ◌*ℤ◌, ◌≤ℤ◌, ◌<ℤ◌, Bool, true, false, ◌&&◌, ◌||◌, not, if◌then◌else◌, int_rem, int_lt, int_le, Option, Some, None, Result, Ok, Err, zero, suc}
+use Rattle.std.specs.Bool.{beq}
+use Rattle.std.specs.Ordering.{int_eq}
 use Rattle.std.specs.Int.{int_bit_and, int_bit_or, int_bit_xor, int_pow}
 use mir.Syntax.{w64}
 use Rattle.qs_values.specs.Number.{IsZero, NumberIs, SumIs, DifferenceIs, ProductIs, RatioIs}
@@ -12,7 +14,6 @@ use Rattle.qs_tree.specs.declared.operator.UnOp.{UnOp}
 use Rattle.qs_tree.specs.declared.operator.UnOp.TheVariants.{Not, Neg, Invert}
 use Rattle.qs_tree.specs.declared.operator.BinOp.{BinOp}
 use Rattle.qs_tree.specs.declared.operator.BinOp.TheVariants.{Power, Mul, Div, Rem, Add, Sub, ShiftLeft, ShiftRight, Less, LessEqual, Greater, GreaterEqual, Equal, NotEqual, BitAnd, BitXor, BitOr, And, Or}
-use Rattle.qs_const.specs.declared.made.Cause.{Cause}
 use Rattle.qs_const.specs.declared.made.Cause.TheVariants as cause
 use Rattle.qs_const.specs.declared.made.Made.{Made}
 use Rattle.qs_const.specs.declared.made.Made.TheVariants.{Gives, Breaks, Nothing}
@@ -20,17 +21,10 @@ use Rattle.qs_const.specs.declared.folded.Folded.{Folded}
 use Rattle.qs_const.specs.declared.folded.Folded.TheVariants.{Value, Absent}
 use Rattle.qs_const.specs.Outcomes.{has_unknown, tells_truth, value_of}
 
--- the cause of a refusal among numbers
-abbrev pub cause_of : NumRefusal → Cause
-cause_of TooWide = cause.TooWide
-cause_of PiTimesPi = cause.PiTimesPi
-cause_of ByZero = cause.ByZero
-cause_of ByPi = cause.ByPi
-
 -- what a result among numbers makes
 abbrev pub number_made : Result Num NumRefusal → Made
 number_made (Ok x) = Gives (Number x)
-number_made (Err e) = Breaks (cause_of e)
+number_made (Err e) = Breaks (cause.Number e)
 
 -- What is made is the number a + b pi with a = an/ad and b = bn/bd, or its refusal.
 abbrev pub MakesNumber : ℤ → ℤ → ℤ → ℤ → Made → Type 0
@@ -48,21 +42,21 @@ IsWhole x k = IsZero x.pi × (x.plain.den ≡ pos 1) × (x.plain.num ≡ k)
 abbrev pub IsNotWhole : Num → Type 0
 IsNotWhole x = (x.pi.num ≢ pos 0) ⊎ (x.plain.den ≢ pos 1)
 
--- ---- signs before an operand
+-- ---- operators before an operand
 
--- what a sign makes of a constant
-abbrev pub SignMakes : UnOp → ConstVal → Made → Type 0
-SignMakes Neg (Number x) made = MakesNumber (pos 0 -ℤ x.plain.num) x.plain.den (pos 0 -ℤ x.pi.num) x.pi.den made
-SignMakes Invert (Number x) made = ((k : ℤ) × IsWhole x k × MakesWhole ((pos 0 -ℤ k) -ℤ pos 1) made) ⊎ (IsNotWhole x × (made ≡ Nothing))
-SignMakes Not (Truth b) made = made ≡ Gives (Truth (not b))
-SignMakes op v made = made ≡ Nothing
+-- what an operator makes of a constant
+abbrev pub UnaryMakes : UnOp → ConstVal → Made → Type 0
+UnaryMakes Neg (Number x) made = MakesNumber (pos 0 -ℤ x.plain.num) x.plain.den (pos 0 -ℤ x.pi.num) x.pi.den made
+UnaryMakes Invert (Number x) made = ((k : ℤ) × IsWhole x k × MakesWhole ((pos 0 -ℤ k) -ℤ pos 1) made) ⊎ (IsNotWhole x × (made ≡ Nothing))
+UnaryMakes Not (Truth b) made = made ≡ Gives (Truth (not b))
+UnaryMakes op v made = made ≡ Nothing
 
 -- what it makes of an operand, which may have no value
-abbrev pub SignIs : UnOp → Option ConstVal → Made → Type 0
-SignIs op None made = made ≡ Nothing
-SignIs op (Some v) made = SignMakes op v made
+abbrev pub UnaryIs : UnOp → Option ConstVal → Made → Type 0
+UnaryIs op None made = made ≡ Nothing
+UnaryIs op (Some v) made = UnaryMakes op v made
 
--- ---- signs between two operands of one kind
+-- ---- operators between two operands of one kind
 
 -- an operation on numbers
 abbrev pub OfNumbers : (Num → Num → Made → Type 0) → Option ConstVal → Option ConstVal → Made → Type 0
@@ -83,37 +77,28 @@ OnWholes Makes x y made =
 abbrev pub OfWholes : (ℤ → ℤ → Made → Type 0) → Option ConstVal → Option ConstVal → Made → Type 0
 OfWholes Makes left right made = OfNumbers (OnWholes Makes) left right made
 
--- whether two whole numbers are equal
-abbrev pub int_equal : ℤ → ℤ → Bool
-int_equal j k = int_le j k && int_le k j
-
--- what a sign makes of two whole numbers: a comparison, or their bits as those of signed 64-bit numbers
+-- what an operator makes of two whole numbers: a comparison, or their bits as those of signed 64-bit numbers
 abbrev pub WholesMake : BinOp → ℤ → ℤ → Made → Type 0
 WholesMake Less j k made = made ≡ Gives (Truth (int_lt j k))
 WholesMake LessEqual j k made = made ≡ Gives (Truth (int_le j k))
 WholesMake Greater j k made = made ≡ Gives (Truth (int_lt k j))
 WholesMake GreaterEqual j k made = made ≡ Gives (Truth (int_le k j))
-WholesMake Equal j k made = made ≡ Gives (Truth (int_equal j k))
-WholesMake NotEqual j k made = made ≡ Gives (Truth (not (int_equal j k)))
+WholesMake Equal j k made = made ≡ Gives (Truth (int_eq j k))
+WholesMake NotEqual j k made = made ≡ Gives (Truth (not (int_eq j k)))
 WholesMake BitAnd j k made = MakesWhole (int_bit_and w64 j k) made
 WholesMake BitXor j k made = MakesWhole (int_bit_xor w64 j k) made
 WholesMake BitOr j k made = MakesWhole (int_bit_or w64 j k) made
 WholesMake op j k made = made ≡ Nothing
 
--- whether two truth values are alike
-abbrev pub alike : Bool → Bool → Bool
-alike true b = b
-alike false b = not b
-
--- what a sign makes of two truth values
+-- what an operator makes of two truth values
 abbrev pub truths_made : BinOp → Bool → Bool → Made
-truths_made Equal a b = Gives (Truth (alike a b))
-truths_made NotEqual a b = Gives (Truth (not (alike a b)))
+truths_made Equal a b = Gives (Truth (beq a b))
+truths_made NotEqual a b = Gives (Truth (not (beq a b)))
 truths_made And a b = Gives (Truth (a && b))
 truths_made Or a b = Gives (Truth (a || b))
 truths_made op a b = Nothing
 
--- a comparison, a sign on bits or a sign on truth values
+-- a comparison, an operator on bits or an operator on truth values
 abbrev pub AlikeMakes : BinOp → Option ConstVal → Option ConstVal → Made → Type 0
 AlikeMakes op (Some (Truth a)) (Some (Truth b)) made = made ≡ truths_made op a b
 AlikeMakes op left right made = OfWholes (WholesMake op) left right made
@@ -121,10 +106,10 @@ AlikeMakes op left right made = OfWholes (WholesMake op) left right made
 -- ---- quotients, remainders, shifts and powers, which may be refused whatever the left operand is
 
 -- A number is 0.
-abbrev pub IsNothing : Num → Type 0
-IsNothing y = IsZero y.plain × IsZero y.pi
+abbrev pub IsZeroNumber : Num → Type 0
+IsZeroNumber y = IsZero y.plain × IsZero y.pi
 
--- A divisor with pi refuses this dividend, which can't be a number. One without a value whose sign doesn't tell so might be
+-- A divisor with pi refuses this dividend, which can't be a number. One without a value whose operator doesn't tell so might be
 -- a multiple of pi: it is refused beside a plain part alone.
 abbrev pub HasNoQuotient : Folded → Num → Type 0
 HasNoQuotient (Value v) y = y.pi.num ≢ pos 0
@@ -138,9 +123,9 @@ MayHaveQuotient (Absent a) y = IsZero y.pi ⊎ ((tells_truth (Absent a) ≡ fals
 -- a divisor of a dividend that is no number, or has no value
 abbrev pub DividesOther : Folded → Num → Made → Type 0
 DividesOther left y made =
-    (IsNothing y × (made ≡ Breaks cause.ByZero))
-    ⊎ ((HasNoQuotient left y × (made ≡ Breaks cause.ByPi))
-    ⊎ (¬ (IsNothing y) × MayHaveQuotient left y × (made ≡ Nothing)))
+    (IsZeroNumber y × (made ≡ Breaks (cause.Number ByZero)))
+    ⊎ ((HasNoQuotient left y × (made ≡ Breaks (cause.Number ByPi)))
+    ⊎ (¬ (IsZeroNumber y) × MayHaveQuotient left y × (made ≡ Nothing)))
 
 -- a divisor of any dividend
 abbrev pub Divides : Folded → Num → Made → Type 0
@@ -159,9 +144,9 @@ Remains j k made = MakesWhole (int_rem j k) made
 -- a remainder: a divisor 0 or with pi is refused, whatever is divided
 abbrev pub RemainderMakes : Option ConstVal → Option ConstVal → Made → Type 0
 RemainderMakes left (Some (Number y)) made =
-    (IsNothing y × (made ≡ Breaks cause.ByZero))
-    ⊎ (((y.pi.num ≢ pos 0) × (made ≡ Breaks cause.ByPi))
-    ⊎ (¬ (IsNothing y) × IsZero y.pi × OfWholes Remains left (Some (Number y)) made))
+    (IsZeroNumber y × (made ≡ Breaks (cause.Number ByZero)))
+    ⊎ (((y.pi.num ≢ pos 0) × (made ≡ Breaks (cause.Number ByPi)))
+    ⊎ (¬ (IsZeroNumber y) × IsZero y.pi × OfWholes Remains left (Some (Number y)) made))
 RemainderMakes left right made = made ≡ Nothing
 
 -- what a shift to the left by so many places makes of a whole number
@@ -182,15 +167,15 @@ abbrev pub IsCount : Num → ℕ → Type 0
 IsCount y n = IsWhole y (pos n) × (n ≤ 63)
 
 -- A number without pi is below 0 or above 63.
-abbrev pub IsOutside : Num → Type 0
-IsOutside y = IsZero y.pi × ((y.plain.num <ℤ pos 0) ⊎ ((pos 63 *ℤ y.plain.den) <ℤ y.plain.num))
+abbrev pub IsNotFrom0To63 : Num → Type 0
+IsNotFrom0To63 y = IsZero y.pi × ((y.plain.num <ℤ pos 0) ⊎ ((pos 63 *ℤ y.plain.den) <ℤ y.plain.num))
 
 -- a shift: a count outside of 0 to 63 is refused, whatever is shifted, and any other that isn't whole has no rule
 abbrev pub ShiftMakes : (ℤ → ℕ → Made → Type 0) → Option ConstVal → Option ConstVal → Made → Type 0
 ShiftMakes Shifts left (Some (Number y)) made =
-    (IsOutside y × (made ≡ Breaks cause.TooWide))
+    (IsNotFrom0To63 y × (made ≡ Breaks (cause.Number TooWide)))
     ⊎ (((n : ℕ) × IsCount y n × ShiftedIs Shifts left n made)
-    ⊎ (IsNotWhole y × ¬ (IsOutside y) × (made ≡ Nothing)))
+    ⊎ (IsNotWhole y × ¬ (IsNotFrom0To63 y) × (made ≡ Nothing)))
 ShiftMakes Shifts left right made = made ≡ Nothing
 
 -- x to the n-th power, where x has pi: a product of two such numbers is refused
@@ -216,7 +201,7 @@ RaisedIs left n made = made ≡ refused_power (has_unknown left)
 
 -- A constant is no exponent.
 abbrev pub IsNoExponent : ConstVal → Type 0
-IsNoExponent (Number y) = IsNotWhole y ⊎ IsOutside y
+IsNoExponent (Number y) = IsNotWhole y ⊎ IsNotFrom0To63 y
 IsNoExponent v = Unit {0}
 
 -- A constant is this exponent.
@@ -231,7 +216,7 @@ PowerMakes left (Absent a) made = made ≡ refused_power (has_unknown left || a.
 
 -- ---- all of them
 
--- what a sign between two operands makes, where each of them may have no value; the last row is of comparisons, bits and truth values
+-- what an operator between two operands makes, where each of them may have no value; the last row is of comparisons, bits and truth values
 abbrev pub PairMakes : BinOp → Folded → Folded → Made → Type 0
 PairMakes Power left right made = PowerMakes left right made
 PairMakes Mul left right made = OfNumbers (ByResult ProductIs) (value_of left) (value_of right) made

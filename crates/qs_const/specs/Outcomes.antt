@@ -5,7 +5,7 @@ use Rattle.qs_const.specs.declared.folded.Fault.{Fault}
 use Rattle.qs_const.specs.declared.folded.Folded.{Folded}
 use Rattle.qs_const.specs.declared.folded.Folded.TheVariants.{Value, Absent}
 
--- no value: with the first refusal, where there is one, whether the sign tells that this is a truth value, and whether a name without a constant stands in it
+-- no value: with the first refusal, where there is one, whether the operator tells that this is a truth value, and whether a name without a constant stands in it
 abbrev pub without_value : Option Fault → Bool → Bool → Folded
 without_value fault truth unknown = Absent (record { fault = fault; truth = truth; unknown = unknown })
 
@@ -19,7 +19,7 @@ abbrev pub fault_of : Folded → Option Fault
 fault_of (Value v) = None
 fault_of (Absent a) = a.fault
 
--- whether a part without a value is a truth value by its sign
+-- whether a part without a value is a truth value by its operator
 abbrev pub tells_truth : Folded → Bool
 tells_truth (Value v) = false
 tells_truth (Absent a) = a.truth

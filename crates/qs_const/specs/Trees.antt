@@ -8,7 +8,8 @@ use Rattle.qs_tree.specs.declared.operator.BinOp.{BinOp}
 use Rattle.qs_tree.specs.declared.expr.Expr.{Expr, Expr-F}
 use Rattle.qs_tree.specs.declared.expr.TypeExpr.{TypeExpr-F}
 use Rattle.qs_tree.specs.declared.expr.ExprKind.{ExprKind}
-use Rattle.qs_tree.specs.declared.expr.ExprKind.TheOpen.{ExprKind-F, Whole, Decimal, Time, Text, Truth, Name, Index, Physical, Call, Cast, Group, Unary, Binary, Number}
+use Rattle.qs_tree.specs.declared.expr.ExprKind.TheOpen.{ExprKind-F, Whole, Decimal, Time, Text, Truth, Name, Index, Physical, Call, Cast, Group, Number}
+use Rattle.qs_tree.specs.declared.expr.ExprKind.TheOpen as layer
 use Rattle.qs_tree.specs.declared.expr.ExprKind.TheFolds.{fold-ExprKind}
 
 -- an expression by its parts, each at its first token where it can be refused there; a time, a physical qubit, a call and a cast are never constants
@@ -21,8 +22,8 @@ pub data Tree : Type 0 where
   Named : (span : Span) → (name : List ℕ) → Tree
   Indexed : (span : Span) → (name : List ℕ) → (index : Tree) → Tree
   Enclosed : (inner : Tree) → Tree
-  Signed : (span : Span) → (op : UnOp) → (operand : Tree) → Tree
-  Joined : (span : Span) → (left : Tree) → (op : BinOp) → (right : Tree) → Tree
+  Unary : (span : Span) → (op : UnOp) → (operand : Tree) → Tree
+  Binary : (span : Span) → (left : Tree) → (op : BinOp) → (right : Tree) → Tree
   Other : Tree
 
 -- one layer of an expression at a place, with the trees of its parts in their places
@@ -38,8 +39,8 @@ kind_step (Physical number) span = Other
 kind_step (Call name args) span = Other
 kind_step (Cast type operand) span = Other
 kind_step (Group inner) span = Enclosed inner
-kind_step (Unary op operand) span = Signed span op operand
-kind_step (Binary left op right) span = Joined span left op right
+kind_step (layer.Unary op operand) span = Unary span op operand
+kind_step (layer.Binary left op right) span = Binary span left op right
 kind_step (Number value) span = Given value
 
 -- the tree of an expression is that of what it is, at its place

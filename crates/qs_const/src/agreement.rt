@@ -30,7 +30,7 @@ enum Value {
 type Made = Option<Result<Value, u16>>;
 
 /// What an expression comes to: its value, the line, column and code of its first refusal, and
-/// whether its sign tells that it is a truth value.
+/// whether its operator tells that it is a truth value.
 #[derive(Clone, Copy)]
 struct Outcome {
     value: Option<Value>,
@@ -202,7 +202,7 @@ fn between(op: BinOp, left: &Outcome, right: Value) -> Made {
     }
 }
 
-/// Whether a sign makes truth values alone.
+/// Whether an operator makes truth values alone.
 fn tells_truth(op: BinOp) -> bool {
     [
         Less,
@@ -315,7 +315,7 @@ const NAMES: [&str; 12] = [
     "pi", "π", "tau", "τ", "n", "n", "half", "mixed", "yes", "no", "digits", "z",
 ];
 
-/// The signs between two operands from the tightest to the loosest, and the first once more.
+/// The operators between two operands from the tightest to the loosest, and the first once more.
 pub static OPERATORS: [[BinOp; 4]; 5] = [
     [Power, Mul, Div, Rem],
     [Add, Sub, ShiftLeft, ShiftRight],
@@ -407,7 +407,7 @@ impl Chance {
     }
 }
 
-/// The place among `!`, `&&` and `||` of an expression's loosest sign.
+/// The place among `!`, `&&` and `||` of an expression's loosest operator.
 fn logical(e: &Expr) -> Option<usize> {
     match &e.kind {
         ExprKind::Unary(UnOp::Not, _) => Some(0),

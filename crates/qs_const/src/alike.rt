@@ -6,8 +6,8 @@ use crate::made::Made;
 use crate::whole::{whole_made, whole_operand};
 use qs_tree::{BinOp, ConstVal};
 
-/// What a comparison, a sign on bits or a sign on truth values makes of two whole numbers or of two
-/// truth values; other operands make nothing.
+/// What a comparison, or an operator on bits or on truth values, makes of two whole numbers or of
+/// two truth values; other operands make nothing.
 pub fn alike_made(op: BinOp, left: Option<&ConstVal>, right: Option<&ConstVal>) -> Made
     ensures { AlikeMakes op (option_copied left.entry) (option_copied right.entry) result }
 {
@@ -20,8 +20,8 @@ pub fn alike_made(op: BinOp, left: Option<&ConstVal>, right: Option<&ConstVal>) 
     }
 }
 
-/// What a sign makes of two whole numbers. Bits are those of signed 64-bit numbers, and a result
-/// that reaches 10^18 in size is `TooWide`.
+/// What an operator makes of two whole numbers. Bits are those of signed 64-bit numbers, and a
+/// result that reaches 10^18 in size is `TooWide`.
 fn wholes_made(op: BinOp, j: i64, k: i64) -> Made
     ensures { WholesMake op j k result }
 {
@@ -39,7 +39,7 @@ fn wholes_made(op: BinOp, j: i64, k: i64) -> Made
     }
 }
 
-/// What a sign makes of two truth values.
+/// What an operator makes of two truth values.
 fn truths_made(op: BinOp, a: bool, b: bool) -> Made
     ensures { result ≡ truths_made op a b }
 {

@@ -1,6 +1,6 @@
 ghost use Rattle.std.specs.Prelude.{◌≡◌};
 ghost use Rattle.std.specs.Option.{option_copied};
-ghost use Rattle.qs_const.specs.Folding.{alone_folded, first_fault, is_before, made_value, one_folded, own_fault, two_folded, unless_fault};
+ghost use Rattle.qs_const.specs.Folding.{alone_folded, first_fault, is_before, one_folded, own_fault, two_folded, unless_fault};
 ghost use Rattle.qs_const.specs.Outcomes.{fault_of, has_unknown, tells_truth, value_of};
 
 use crate::made::{Cause, Made};
@@ -15,7 +15,7 @@ pub struct Fault {
 }
 
 /// What is known of a part without a value: the first refusal in it, where there is one, whether
-/// its sign tells that it is a truth value, and whether a name without a constant stands in it.
+/// its operator tells that it is a truth value, and whether a name without a constant stands in it.
 #[derive(Clone, Copy, Debug, PartialEq, Eq)]
 pub struct Absent {
     pub fault: Option<Fault>,
@@ -67,7 +67,7 @@ impl Folded {
         }
     }
 
-    /// Whether it has no value and is a truth value by its sign.
+    /// Whether it has no value and is a truth value by its operator.
     pub fn tells_truth(&self) -> bool
         ensures { result ≡ tells_truth self.now }
     {
@@ -112,31 +112,17 @@ fn own_fault(span: Span, made: &Made) -> Option<Fault>
     }
 }
 
-/// The value that is made, and where none is, what is known without it.
-pub fn made_value(truth: bool, unknown: bool, made: Made) -> Folded
-    ensures { result ≡ made_value truth unknown made }
-{
-    match made {
-        Made::Gives(value) => Folded::Value(value),
-        _ => Folded::Absent(Absent {
-            fault: None,
-            truth,
-            unknown,
-        }),
-    }
-}
-
 /// The first refusal, and where there is none what is made.
-fn unless_fault(truth: bool, unknown: bool, fault: Option<Fault>, made: Made) -> Folded
+pub fn unless_fault(truth: bool, unknown: bool, fault: Option<Fault>, made: Made) -> Folded
     ensures { result ≡ unless_fault truth unknown fault made }
 {
-    match fault {
-        Some(_) => Folded::Absent(Absent {
+    match (fault, made) {
+        (None, Made::Gives(value)) => Folded::Value(value),
+        _ => Folded::Absent(Absent {
             fault,
             truth,
             unknown,
         }),
-        None => made_value(truth, unknown, made),
     }
 }
 

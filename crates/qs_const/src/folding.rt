@@ -6,11 +6,11 @@ ghost use Rattle.qs_const.specs.declared.folded.Folded.TheVariants.{Value};
 ghost use Rattle.qs_const.specs.Trees.{tree_of};
 ghost use Rattle.qs_const.specs.Folding.{FoldIs, Folds, IsFoldable};
 
-use crate::folded::{Absent, Folded, alone_folded, made_value, one_folded, two_folded};
+use crate::folded::{Absent, Folded, alone_folded, one_folded, two_folded, unless_fault};
 use crate::names::{index_made, name_made, text_made};
 use crate::pairs::pair_made;
 use crate::refusal::{ConstRefusal, refused_as};
-use crate::signs::sign_made;
+use crate::unary::unary_made;
 use crate::whole::whole_made;
 use qs_tree::{ConstVal, Consts, Expr, ExprKind};
 use qs_values::{Frac, Num};
@@ -33,7 +33,10 @@ pub fn folded(alloc: Global, e: &Expr, consts: &Consts) -> Result<Folded, AllocE
     match &e.kind {
         ExprKind::Whole(value) => Ok(alone_folded(e.span, whole_made(*value as i128))),
         ExprKind::Decimal(value) => Ok(plain_folded(*value)),
-        ExprKind::Text(text) => Ok(made_value(false, false, text_made(alloc, text.as_str())?)),
+        ExprKind::Text(text) => {
+            let made = text_made(alloc, text.as_str())?;
+            Ok(unless_fault(false, false, None, made))
+        }
         ExprKind::Truth(value) => Ok(Folded::Value(ConstVal::Truth(*value))),
         ExprKind::Name(name) => {
             let made = name_made(alloc, consts, name.as_str())?;
@@ -47,7 +50,7 @@ pub fn folded(alloc: Global, e: &Expr, consts: &Consts) -> Result<Folded, AllocE
         ExprKind::Group(inner) => folded(alloc, inner.get(), consts),
         ExprKind::Unary(op, operand) => {
             let operand = folded(alloc, operand.get(), consts)?;
-            let made = sign_made(*op, operand.value());
+            let made = unary_made(*op, operand.value());
             Ok(one_folded(op.gives_truth(), e.span, made, &operand))
         }
         ExprKind::Binary(left, op, right) => {

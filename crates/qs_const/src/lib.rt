@@ -15,10 +15,10 @@ mod powers;
 mod quotients;
 mod refusal;
 mod shifts;
-mod signs;
 mod sums;
 #[cfg(test)]
 mod tests;
+mod unary;
 mod whole;
 
 pub use folding::fold;

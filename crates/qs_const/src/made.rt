@@ -1,15 +1,16 @@
 ghost use Rattle.std.specs.Prelude.{◌≡◌};
 
 use qs_tree::ConstVal;
+use qs_values::NumRefusal;
 
-/// Why an operation on constants is refused, in the order of the codes from 121 to 126.
+/// Why an operation on constants is refused.
 #[derive(Clone, Copy, Debug, PartialEq, Eq)]
 pub enum Cause {
-    TooWide,
-    PiTimesPi,
-    ByZero,
-    ByPi,
+    /// As one on numbers is, or a shift's count is below 0 or above 63: 121 to 124.
+    Number(NumRefusal),
+    /// An exponent that isn't a whole number from 0 to 63, or a power at run time: 125.
     BadPower,
+    /// A name without a constant: 126.
     NotConst,
 }
 
@@ -21,10 +22,7 @@ impl Cause {
         ensures { result ≡ code_of self }
     {
         match self {
-            Cause::TooWide => 121,
-            Cause::PiTimesPi => 122,
-            Cause::ByZero => 123,
-            Cause::ByPi => 124,
+            Cause::Number(refusal) => refusal.code(),
             Cause::BadPower => 125,
             Cause::NotConst => 126,
         }

@@ -9,7 +9,7 @@ use crate::shifts::{shift_left_made, shift_right_made};
 use crate::sums::{difference_made, product_made, sum_made};
 use qs_tree::BinOp;
 
-/// What a sign between two operands makes, where each of them may have no value.
+/// What an operator between two operands makes, where each of them may have no value.
 pub fn pair_made(op: BinOp, left: &Folded, right: &Folded) -> Made
     ensures { PairMakes op left.now right.now result }
 {

@@ -6,7 +6,7 @@ use crate::folded::Folded;
 use crate::made::{Cause, Made};
 use crate::whole::{number_made, whole, whole_made, whole_operand};
 use qs_tree::ConstVal;
-use qs_values::Num;
+use qs_values::{Num, NumRefusal};
 
 /// The quotient of two numbers. Whatever the dividend is, a divisor 0 is `ByZero`, and one with pi
 /// is `ByPi` where the dividend can't be a number or the divisor has a plain part too; other
@@ -30,10 +30,10 @@ fn divided_by(left: &Folded, y: &Num) -> Made
         if is_plain {
             Made::Nothing
         } else {
-            Made::Breaks(Cause::ByZero)
+            Made::Breaks(Cause::Number(NumRefusal::ByZero))
         }
     } else if left.value().is_some() || left.tells_truth() || is_plain {
-        Made::Breaks(Cause::ByPi)
+        Made::Breaks(Cause::Number(NumRefusal::ByPi))
     } else {
         Made::Nothing
     }
@@ -47,9 +47,9 @@ pub fn remainder_made(left: Option<&ConstVal>, right: Option<&ConstVal>) -> Made
     match right {
         Some(ConstVal::Number(y)) => {
             if y.pi.num() != 0 {
-                Made::Breaks(Cause::ByPi)
+                Made::Breaks(Cause::Number(NumRefusal::ByPi))
             } else if y.plain.num() == 0 {
-                Made::Breaks(Cause::ByZero)
+                Made::Breaks(Cause::Number(NumRefusal::ByZero))
             } else {
                 remainder_by(left, y)
             }

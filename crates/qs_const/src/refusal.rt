@@ -3,7 +3,7 @@ ghost use Rattle.qs_const.specs.Codes.{fault_told};
 
 use crate::folded::Fault;
 use crate::made::Cause;
-use qs_values::Span;
+use qs_values::{NumRefusal, Span};
 use std::alloc::AllocError;
 
 /// Why a constant expression has no value, and where: the first refusal in the order of the text.
@@ -36,10 +36,10 @@ impl ConstRefusal {
         ensures { result ≡ fault_told self.now }
     {
         let (span, cause) = match self {
-            ConstRefusal::TooWide { span } => (*span, Cause::TooWide),
-            ConstRefusal::PiTimesPi { span } => (*span, Cause::PiTimesPi),
-            ConstRefusal::ByZero { span } => (*span, Cause::ByZero),
-            ConstRefusal::ByPi { span } => (*span, Cause::ByPi),
+            ConstRefusal::TooWide { span } => (*span, Cause::Number(NumRefusal::TooWide)),
+            ConstRefusal::PiTimesPi { span } => (*span, Cause::Number(NumRefusal::PiTimesPi)),
+            ConstRefusal::ByZero { span } => (*span, Cause::Number(NumRefusal::ByZero)),
+            ConstRefusal::ByPi { span } => (*span, Cause::Number(NumRefusal::ByPi)),
             ConstRefusal::BadPower { span } => (*span, Cause::BadPower),
             ConstRefusal::NotConst { span } => (*span, Cause::NotConst),
             ConstRefusal::Memory => return None,
@@ -84,10 +84,10 @@ pub fn refused_as(fault: Fault) -> ConstRefusal
 {
     let span = fault.span;
     match fault.cause {
-        Cause::TooWide => ConstRefusal::TooWide { span },
-        Cause::PiTimesPi => ConstRefusal::PiTimesPi { span },
-        Cause::ByZero => ConstRefusal::ByZero { span },
-        Cause::ByPi => ConstRefusal::ByPi { span },
+        Cause::Number(NumRefusal::TooWide) => ConstRefusal::TooWide { span },
+        Cause::Number(NumRefusal::PiTimesPi) => ConstRefusal::PiTimesPi { span },
+        Cause::Number(NumRefusal::ByZero) => ConstRefusal::ByZero { span },
+        Cause::Number(NumRefusal::ByPi) => ConstRefusal::ByPi { span },
         Cause::BadPower => ConstRefusal::BadPower { span },
         Cause::NotConst => ConstRefusal::NotConst { span },
     }

@@ -8,16 +8,16 @@ use qs_values::{Boxed, Frac, List, Name, Num, Span};
 use std::alloc::Global;
 use std::test::Fail;
 
-/// The signs between two operands in the order of `OPERATORS`.
+/// How the operators between two operands are spelled, in the order of `OPERATORS`.
 static SIGNS: [&str; 19] = [
     "**", "*", "/", "%", "+", "-", "<<", ">>", "<", "<=", ">", ">=", "==", "!=", "&", "^", "|",
     "&&", "||",
 ];
 
-/// How tightly each of them binds; a sign before its operand has 11.
+/// How tightly each of them binds; an operator before its operand has 11.
 static LEVELS: [u8; 19] = [12, 10, 10, 10, 9, 9, 8, 8, 7, 7, 7, 7, 6, 6, 5, 4, 3, 2, 1];
 
-/// A sign between two operands, and how tightly it binds.
+/// An operator between two operands, and how tightly it binds.
 fn between(text: &str) -> Option<(BinOp, u8)> {
     let at = SIGNS.iter().position(|sign| *sign == text)?;
     let op = OPERATORS.get(at / 4)?.get(at % 4)?;
@@ -46,7 +46,7 @@ impl<'a> Reader<'a> {
         }
     }
 
-    /// An expression whose signs bind at a level or tighter.
+    /// An expression whose operators bind at a level or tighter.
     #[cycle(reading)]
     fn expression(&mut self, least: u8, depth: u8) -> Result<Expr, Fail> {
         let depth = depth.checked_sub(1).ok_or("too deep")?;
@@ -67,7 +67,7 @@ impl<'a> Reader<'a> {
         Ok(left)
     }
 
-    /// A value, a name, or a sign or a bracket with its expression.
+    /// A value, a name, or an operator or a bracket with its expression.
     #[cycle(reading)]
     fn operand(&mut self, depth: u8) -> Result<Expr, Fail> {
         let depth = depth.checked_sub(1).ok_or("too deep")?;
@@ -237,7 +237,7 @@ z[1/0] => 126 1:1; z[1]/0 => 123 1:1
 2**60/0 => 121 1:1; 2**64 << 64 => 121 1:1; 0 * (1/0) => 123 1:6; false && 1/0 == 1 => 123 1:10
 (1/0)**64 => 125 1:1
    pi*pi => 122 1:4
-# powers at run time, and exponents that are truth values by their signs
+# powers at run time, and exponents that are truth values by their operators
 z**2 => 125 1:1; 2**z => 125 1:1; z**z => 125 1:1; (z)**2 => 125 1:1; 2**(z) => 125 1:1
 z[1]**2 => 125 1:1; 2**z[1] => 125 1:1; -z**2 => 125 1:2; 2**-z => 125 1:1; 1 + z**2 => 125 1:5
 true**z => 125 1:1; "01"**z => 125 1:1; (-true)**z => 125 1:1; z**(-true) => 125 1:1
@@ -249,7 +249,7 @@ z**(1/0) => 125 1:1; (1/0)**z => 125 1:1; (pi*pi)**2 => 122 1:2; 2**(pi*pi) => 1
 2**(1/0 == 1) => 125 1:1; 2**(1/0) => 123 1:5; 2**(1/0 < 1) => 125 1:1; 2**!(1/0) => 125 1:1
 2**((1/0 || true)) => 125 1:1; 2**-(1/0 == 1) => 123 1:6; 2**(1 && 1) => 125 1:1
 (1/0 == 1)**2 => 123 1:2; (1/0 == 1)**64 => 125 1:1
-# truth values by their signs over pi
+# truth values by their operators over pi
 !z/pi => 124 1:1; (!z)/pi => 124 1:1; ((z < 1))/pi => 124 1:1; (z >= 1)/tau => 124 1:1
 (z != 1)/(2*pi) => 124 1:1; (1/0 || z)/pi => 124 1:1; (1 && 1)/pi => 124 1:1; !z/2 => 126 1:2
 !z/0 => 123 1:1; !z/(pi - pi) => 123 1:1; -z/pi => 126 1:2; ~z/pi => 126 1:2; (z + 1)/pi => 126 1:2

@@ -48,7 +48,7 @@ pub fn no_count_made(operand: Option<&ConstVal>) -> Made
     };
     let num = y.plain.num();
     if y.pi.num() == 0 && (num < 0 || num > 63 * y.plain.den()) {
-        Made::Breaks(Cause::TooWide)
+        Made::Breaks(Cause::Number(NumRefusal::TooWide))
     } else {
         Made::Nothing
     }
@@ -64,19 +64,16 @@ pub fn whole_made(k: i128) -> Made
             plain,
             pi: Frac::whole(0),
         })),
-        Err(_) => Made::Breaks(Cause::TooWide),
+        Err(_) => Made::Breaks(Cause::Number(NumRefusal::TooWide)),
     }
 }
 
-/// What a result among numbers makes: the number, or the cause of its refusal.
+/// What a result among numbers makes: the number, or its refusal.
 pub fn number_made(number: Result<Num, NumRefusal>) -> Made
     ensures { result ≡ number_made number }
 {
     match number {
         Ok(x) => Made::Gives(ConstVal::Number(x)),
-        Err(NumRefusal::TooWide) => Made::Breaks(Cause::TooWide),
-        Err(NumRefusal::PiTimesPi) => Made::Breaks(Cause::PiTimesPi),
-        Err(NumRefusal::ByZero) => Made::Breaks(Cause::ByZero),
-        Err(NumRefusal::ByPi) => Made::Breaks(Cause::ByPi),
+        Err(refusal) => Made::Breaks(Cause::Number(refusal)),
     }
 }

@@ -1,7 +1,7 @@
 use Rattle.std.proofs.Common.{inl, subst}
 use Rattle.qs_const.specs.Operations.{MakesWhole}
 use Rattle.qs_const.proofs.SmallNumbers.{inverted_coded}
-use Rattle.qs_const.proofs.signs.inverted.Goals as goal
+use Rattle.qs_const.proofs.unary.inverted.Goals as goal
 
 pub returns-in-Some : goal.returns-in-Some
 returns-in-Some c =
