@@ -1,10 +1,8 @@
 -- A core that has ended has the logs of all planned acts, and its hub is in the run's last state.
-use Rattle.std.proofs.Common.{◌≡◌, ℕ, ◌+◌, ◌<◌, List, [], ◌∷◌, ◌++◌, length, map, take_all, ap, ap₂, ◌∙◌, refl, subst, arith, suc}
+use Rattle.std.proofs.Common.{◌≡◌, ℕ, ◌+◌, ◌<◌, List, [], ◌∷◌, length, map, take_all, ap, ap₂, ◌∙◌, refl, subst, arith, suc}
 use Rattle.std.specs.Prelude.{Some, slice_get}
 use Rattle.std.specs.List.{range_with_len}
 use Rattle.std.proofs.lemmas.Option.{slice_get_within}
-use Rattle.qs_values.specs.declared.tape.Tape.{Tape}
-use Rattle.plan_tree.specs.declared.plan.Plan.{Plan}
 use Rattle.plan_tree.specs.Acts.{planned_acts}
 use Rattle.controller_core.specs.declared.core_state.Counted.{Counted}
 use Rattle.controller_machine.specs.declared.ctl.Played.{Played}

@@ -1,5 +1,5 @@
 -- Reading the tokens of a statement that was spelled.
-use Rattle.std.proofs.Common.{◌≡◌, ◌≢◌, ℕ, ◌+◌, ◌-◌, ◌*◌, ◌^◌, ◌<◌, ◌≤◌, List, [], ◌∷◌, ◌++◌, All, length, true, false, nat_eq, nat_le, ◌&&◌, ap, sym, ◌∙◌, refl, append_assoc, inl, inr, rules, arith}
+use Rattle.std.proofs.Common.{◌≡◌, ◌≢◌, ℕ, ◌+◌, ◌-◌, ◌*◌, ◌^◌, ◌<◌, ◌≤◌, List, [], ◌∷◌, ◌++◌, All, length, true, false, nat_eq, ap, sym, ◌∙◌, refl, append_assoc, inl, inr, rules, arith}
 use Rattle.std.specs.Prelude.{Option, Some, None, zero, suc, codes, decimal}
 use Rattle.std.specs.Char.{is_ascii_digit}
 use Rattle.std.specs.Int.{IsInRange}
