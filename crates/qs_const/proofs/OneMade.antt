@@ -15,7 +15,7 @@ use Rattle.qs_const.specs.declared.made.Made.{Made}
 use Rattle.qs_const.specs.declared.folded.Folded.{Folded}
 use Rattle.qs_const.specs.declared.folded.Folded.TheVariants.{Value, Absent}
 use Rattle.qs_const.specs.Outcomes.{value_of}
-use Rattle.qs_const.specs.Operations.{AlikeMakes, ByResult, DividesOther, HasNoQuotient, IsCount, IsExponent, IsNoExponent, IsZeroNumber, IsNotWhole, IsNotFrom0To63, IsPower, IsPowerWithPi, IsWhole, MakesNumber, MakesWhole, MayHaveQuotient, OfNumbers, OfWholes, OnWholes, PairMakes, PowerMakes, QuotientMakes, RaisedIs, RemainderMakes, Remains, ShiftMakes, ShiftedIs, ShiftsDown, ShiftsUp, UnaryIs, WholesMake, number_made}
+use Rattle.qs_const.specs.Operations.{AlikeMakes, ByResult, DividesOther, HasNoQuotient, IsCount, IsExponent, IsNoExponent, IsZeroNumber, IsNotWhole, IsBelow0OrAbove63, IsPower, IsPowerWithPi, IsWhole, MakesNumber, MakesWhole, MayHaveQuotient, OfNumbers, OfWholes, OnWholes, PairMakes, PowerMakes, QuotientMakes, RaisedIs, RemainderMakes, Remains, ShiftMakes, ShiftedIs, ShiftsDown, ShiftsUp, UnaryIs, WholesMake, number_made}
 use Rattle.qs_const.proofs.PowerLemmas.{nonzero_pow}
 use Rattle.qs_values.proofs.NumberLemmas.{nonzero_den}
 use Rattle.qs_values.proofs.OneNumber.{difference_once, number_once, one_nonzero, product_once, ratio_once, sum_once}
@@ -186,7 +186,7 @@ shifted_once Shifts once (Some (Number x)) n m o (inl (j, a, h)) (inr (parted, f
 shifted_once Shifts once (Some (Number x)) n m o (inr (parted, e)) (inl (k, b, g)) = absurd (whole_not x k b parted)
 shifted_once Shifts once (Some (Number x)) n m o (inr (parted, e)) (inr (also, f)) = e ∙ sym f
 
-count_not_outside : (y : Num) (n : ℕ) → IsNotFrom0To63 y → IsCount y n → ⊥
+count_not_outside : (y : Num) (n : ℕ) → IsBelow0OrAbove63 y → IsCount y n → ⊥
 count_not_outside y n (pi, inl low) count = omega (arith, ints, count.0.2, low)
 count_not_outside y n (pi, inr high) count = omega (arith, ints, count.0.1, count.0.2, high, count.1)
 

@@ -167,15 +167,15 @@ abbrev pub IsCount : Num → ℕ → Type 0
 IsCount y n = IsWhole y (pos n) × (n ≤ 63)
 
 -- A number without pi is below 0 or above 63.
-abbrev pub IsNotFrom0To63 : Num → Type 0
-IsNotFrom0To63 y = IsZero y.pi × ((y.plain.num <ℤ pos 0) ⊎ ((pos 63 *ℤ y.plain.den) <ℤ y.plain.num))
+abbrev pub IsBelow0OrAbove63 : Num → Type 0
+IsBelow0OrAbove63 y = IsZero y.pi × ((y.plain.num <ℤ pos 0) ⊎ ((pos 63 *ℤ y.plain.den) <ℤ y.plain.num))
 
 -- a shift: a count outside of 0 to 63 is refused, whatever is shifted, and any other that isn't whole has no rule
 abbrev pub ShiftMakes : (ℤ → ℕ → Made → Type 0) → Option ConstVal → Option ConstVal → Made → Type 0
 ShiftMakes Shifts left (Some (Number y)) made =
-    (IsNotFrom0To63 y × (made ≡ Breaks (cause.Number TooWide)))
+    (IsBelow0OrAbove63 y × (made ≡ Breaks (cause.Number TooWide)))
     ⊎ (((n : ℕ) × IsCount y n × ShiftedIs Shifts left n made)
-    ⊎ (IsNotWhole y × ¬ (IsNotFrom0To63 y) × (made ≡ Nothing)))
+    ⊎ (IsNotWhole y × ¬ (IsBelow0OrAbove63 y) × (made ≡ Nothing)))
 ShiftMakes Shifts left right made = made ≡ Nothing
 
 -- x to the n-th power, where x has pi: a product of two such numbers is refused
@@ -201,7 +201,7 @@ RaisedIs left n made = made ≡ refused_power (has_unknown left)
 
 -- A constant is no exponent.
 abbrev pub IsNoExponent : ConstVal → Type 0
-IsNoExponent (Number y) = IsNotWhole y ⊎ IsNotFrom0To63 y
+IsNoExponent (Number y) = IsNotWhole y ⊎ IsBelow0OrAbove63 y
 IsNoExponent v = Unit {0}
 
 -- A constant is this exponent.

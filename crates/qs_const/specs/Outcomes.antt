@@ -5,7 +5,7 @@ use Rattle.qs_const.specs.declared.folded.Fault.{Fault}
 use Rattle.qs_const.specs.declared.folded.Folded.{Folded}
 use Rattle.qs_const.specs.declared.folded.Folded.TheVariants.{Value, Absent}
 
--- no value: with the first refusal, where there is one, whether the operator tells that this is a truth value, and whether a name without a constant stands in it
+-- no value: with the first refusal, where there is one, whether the operator tells that this is a truth value, and whether a name without a constant stands in it, outside of calls and casts
 abbrev pub without_value : Option Fault → Bool → Bool → Folded
 without_value fault truth unknown = Absent (record { fault = fault; truth = truth; unknown = unknown })
 
@@ -24,7 +24,7 @@ abbrev pub tells_truth : Folded → Bool
 tells_truth (Value v) = false
 tells_truth (Absent a) = a.truth
 
--- whether a name without a constant stands in a part
+-- whether a name without a constant stands in a part, outside of calls and casts, which have no rule
 abbrev pub has_unknown : Folded → Bool
 has_unknown (Value v) = false
 has_unknown (Absent a) = a.unknown

@@ -7,7 +7,7 @@ use Rattle.qs_values.specs.declared.refusal.NumRefusal.TheVariants.{TooWide}
 use Rattle.qs_const.specs.declared.made.Cause.TheVariants as cause
 use Rattle.qs_const.specs.declared.made.Made.{Made}
 use Rattle.qs_const.specs.declared.made.Made.TheVariants.{Breaks, Nothing}
-use Rattle.qs_const.specs.Operations.{IsExponent, IsNoExponent, IsNotWhole, IsNotFrom0To63, IsWhole}
+use Rattle.qs_const.specs.Operations.{IsExponent, IsNoExponent, IsNotWhole, IsBelow0OrAbove63, IsWhole}
 
 -- the whole number that a number is, which is below 10^18 in size, or that it is none
 abbrev pub WholeIs : Num → Option ℤ → Type 0
@@ -29,5 +29,5 @@ CountIs None n = n ≡ None
 
 -- what an operand that is no count makes as one
 abbrev pub NoCountMakes : Option ConstVal → Made → Type 0
-NoCountMakes (Some (Number y)) made = (IsNotFrom0To63 y × (made ≡ Breaks (cause.Number TooWide))) ⊎ (¬ (IsNotFrom0To63 y) × (made ≡ Nothing))
+NoCountMakes (Some (Number y)) made = (IsBelow0OrAbove63 y × (made ≡ Breaks (cause.Number TooWide))) ⊎ (¬ (IsBelow0OrAbove63 y) × (made ≡ Nothing))
 NoCountMakes operand made = made ≡ Nothing

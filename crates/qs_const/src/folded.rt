@@ -15,7 +15,8 @@ pub struct Fault {
 }
 
 /// What is known of a part without a value: the first refusal in it, where there is one, whether
-/// its operator tells that it is a truth value, and whether a name without a constant stands in it.
+/// its operator tells that it is a truth value, and whether a name without a constant stands in it,
+/// outside of calls and casts.
 #[derive(Clone, Copy, Debug, PartialEq, Eq)]
 pub struct Absent {
     pub fault: Option<Fault>,

@@ -76,7 +76,8 @@ pub fn folded(alloc: Global, e: &Expr, consts: &Consts) -> Result<Folded, AllocE
 /// # Errors
 /// The first refusal in the order of the text, at the first token of the part that is refused: of
 /// two at one place that with the lower code. `NotConst` stands at a name without a constant, and
-/// `BadPower` at a power with one in an operand. `Memory` for want of memory.
+/// `BadPower` at a power with one in an operand, outside of calls and casts. `Memory` for want of
+/// memory.
 pub fn fold(alloc: Global, e: &Expr, consts: &Consts) -> Result<ConstVal, ConstRefusal>
     requires { IsFoldable e.now consts.now }
     ensures { FoldIs e.now consts.now result }

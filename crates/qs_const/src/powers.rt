@@ -9,7 +9,7 @@ use qs_values::{Frac, Num, NumRefusal};
 
 /// A number to a power. Whatever the number is, an exponent that can't be a whole number from 0 to
 /// 63 is `BadPower`, and so is a power at run time: one with a name without a constant in an
-/// operand. Other operands make nothing.
+/// operand, outside of calls and casts. Other operands make nothing.
 pub fn power_made(left: &Folded, right: &Folded) -> Made
     ensures { PowerMakes left.now right.now result }
 {

@@ -19,7 +19,7 @@ pub enum ConstRefusal {
     /// A divisor with pi, but for a quotient of two multiples of pi alone.
     ByPi { span: Span },
     /// An exponent that isn't a whole constant from 0 to 63, or a power at run time: one with a
-    /// name without a constant in an operand.
+    /// name without a constant in an operand, outside of calls and casts.
     BadPower { span: Span },
     /// A name without a constant.
     NotConst { span: Span },

@@ -1,4 +1,4 @@
--- The line of a refusal, and the names of all codes. This project's own.
+-- The line of a refusal, and the names of the codes that it may have. This project's own.
 use Rattle.std.specs.Prelude.{ℕ, List, [], ◌∷◌, ◌++◌, codes, decimal, Option, Some, None, option_map, nat_eq}
 use Rattle.std.specs.List.{find, flat_map}
 use Rattle.qs_values.specs.declared.span.Span.{Span}

@@ -1,7 +1,7 @@
 ghost use Rattle.std.specs.Prelude.{◌≡◌, map, option_map};
 ghost use Rattle.timeline_board.specs.Refused.{name_in, name_of};
 
-/// The names of all codes.
+/// The names of the codes that a line may have.
 const NAMES: [(u16, &str); 94] = [
     (10, "FileTooLong"),
     (11, "MachineNotJson"),
