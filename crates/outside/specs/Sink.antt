@@ -8,7 +8,7 @@ pub record SinkState : Type 0 where
   pub bytes : Option (List ℕ)
   pub faults : ℕ
 
--- the bytes with more behind them, where they are told
+-- the bytes with more after them, where they are told
 abbrev pub appended : Option (List ℕ) → List ℕ → Option (List ℕ)
 appended None more = None
 appended (Some bytes) more = Some (bytes ++ more)

@@ -2,6 +2,10 @@
 use Rattle.std.specs.Prelude.{◌≡◌, ℕ, List, ◌++◌, Bool, true, false}
 use Rattle.outside.specs.Sink.{SinkState, StopsIn, with_text}
 
+-- how many bytes wait at most
+abbrev pub room_bytes : ℕ
+room_bytes = 65536
+
 -- the bytes that wait, and whether a fault came
 pub record Waiting : Type 0 where
   pub bytes : List ℕ
@@ -32,6 +36,6 @@ abbrev pub PutsUnless : Bool → SinkState → SinkState → List ℕ → Bool �
 PutsUnless true old new text after = (new ≡ old) × (after ≡ true)
 PutsUnless false old new text after = PutsBy old new text after
 
--- The text goes on with more: whatever was written before, this is written behind it.
+-- The text goes on with more: whatever was written before, this is written after it.
 pub record GoesOn (old : SinkState) (w : Waiting) (new : SinkState) (w' : Waiting) (more : List ℕ) : Type 0 where
   pub on : (start : SinkState) (before : List ℕ) → IsAt start old w before → IsAt start new w' (before ++ more)

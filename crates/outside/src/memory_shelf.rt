@@ -37,8 +37,8 @@ impl Model for MemoryShelf {
 
 impl MemoryShelf {
     /// A shelf whose calls of `take` are numbered from 0, and of which those in `fails` fail, as a
-    /// call by a name that no file has. Of several files with one name the first counts. A call that
-    /// wants memory has no number.
+    /// call by a name that no file has. Of several files with one name the first counts. A call
+    /// that finds no memory has no number.
     pub fn new(files: List<Kept>, fails: List<u32>) -> MemoryShelf
         ensures { result ≡ record { files = files_of files; fails = fails; calls = 0; faults = 0; failed = [] } }
     {

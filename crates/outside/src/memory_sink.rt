@@ -7,7 +7,7 @@ use qs_values::Memory;
 use std::alloc::Global;
 use std::marker::Model;
 
-/// A sink in memory. It has all its memory from the start, so a put wants none.
+/// A sink in memory. It has all its memory from the start, so a put needs no more.
 #[derive(Debug, Drop)]
 pub struct MemorySink {
     held: Vec<u8>,
@@ -30,7 +30,7 @@ impl Model for MemorySink {
 
 impl MemorySink {
     /// An empty sink with room for `room` bytes, of which one put takes at most `piece` bytes. A put
-    /// of some bytes fails where no room is left. `Memory` is want of memory.
+    /// of some bytes fails where no room is left. `Memory` is out of memory.
     pub fn new(alloc: Global, room: u32, piece: u32) -> Result<MemorySink, Memory>
         requires { 0 < piece }
         ensures { IfOk result (λ s. s ≡ record { bytes = []; room = room; piece = piece; faults = 0 }) }
@@ -99,18 +99,21 @@ mod tests {
 
     #[test]
     fn puts_long_texts_and_nothing_after_a_fault(rt: HostRuntime) -> Result<(), Fail> {
-        let mut sink = MemorySink::new(rt.alloc(), 9_000, 5_000)?;
+        let mut sink = MemorySink::new(rt.alloc(), 140_000, 50_000)?;
+        let first = vec![in rt.alloc(); b'a'; 65_500]?;
+        let longer = vec![in rt.alloc(); b'c'; 74_399]?;
+        let last = vec![in rt.alloc(); b'f'; 66_000]?;
         let mut page = TextBuffer::new();
-        page.text(&mut sink, &[b'a'; 4_000]);
+        page.text(&mut sink, first.as_slice());
         page.text(&mut sink, &[b'b'; 100]);
-        page.text(&mut sink, &[b'c'; 4_899]);
-        assert_eq!(rt; sink.bytes().len(), 8_999);
+        page.text(&mut sink, longer.as_slice());
+        assert_eq!(rt; sink.bytes().len(), 139_999);
         page.text(&mut sink, b"de");
-        page.text(&mut sink, &[b'f'; 4_200]);
+        page.text(&mut sink, last.as_slice());
         assert_eq!(rt; sink.faults, 1);
         assert_eq!(rt; page.finish(&mut sink), Err(PutFailed));
         assert_eq!(rt; sink.faults, 1);
-        assert_eq!(rt; sink.bytes().len(), 9_000);
+        assert_eq!(rt; sink.bytes().len(), 140_000);
         assert_eq!(rt; sink.bytes().last(), Some(&b'd'));
         Ok(())
     }

@@ -17,7 +17,7 @@ pub enum Taken {
 pub enum TakeFault {
     /// It couldn't be read.
     Failed,
-    /// Want of memory.
+    /// Out of memory.
     Memory,
 }
 
@@ -29,7 +29,7 @@ pub trait Shelf {
     /// has more.
     ///
     /// `Failed` comes only where the shelf counts a fault, and the name that it keeps is then this
-    /// one. `Memory` is want of memory. But for a fault the shelf stays as it was.
+    /// one. `Memory` is out of memory. But for a fault the shelf stays as it was.
     fn take(&mut self, alloc: Global, name: &str, limit: u32) -> Result<Taken, TakeFault>
         ensures { AnswersTake (state self.old) (state self.new) name.now limit result };
 }

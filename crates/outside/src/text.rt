@@ -1,13 +1,13 @@
 ghost use Rattle.std.specs.Prelude.{◌≡◌, ◌+◌, ◌≤◌, ◌++◌, [], List, ℕ, false, length, take, decimal};
 ghost use Rattle.outside.specs.Sink.{PutsText, SinkState};
-ghost use Rattle.outside.specs.Text.{GoesOn, IsAt, PutsUnless};
+ghost use Rattle.outside.specs.Text.{GoesOn, IsAt, PutsUnless, room_bytes};
 
 use crate::sink::{PutFailed, Sink};
 use itoa::Buffer;
 use std::marker::Model;
 
 /// How many bytes wait at most.
-const ROOM: usize = 4096;
+const ROOM_BYTES: usize = 65_536;
 
 /// Puts a whole text.
 fn put_all<K: Sink>(sink: &mut K, text: &[u8]) -> Result<(), PutFailed>
@@ -40,20 +40,20 @@ fn put_unless<K: Sink>(failed: bool, sink: &mut K, text: &[u8]) -> bool
 /// the sink nothing more is put.
 #[derive(Drop)]
 pub struct TextBuffer {
-    held: [u8; ROOM],
+    held: [u8; ROOM_BYTES],
     len: usize,
     failed: bool,
 }
 
 impl Model for TextBuffer {
     ghost use Rattle.std.specs.Prelude.{◌≤◌, take};
-    ghost use Rattle.outside.specs.Text.{Waiting};
+    ghost use Rattle.outside.specs.Text.{Waiting, room_bytes};
 
     ghost Value = { Waiting };
 
     ghost view = { λ t. record { bytes = take t.len t.held; failed = t.failed } };
 
-    ghost invariant = { λ t. t.len ≤ 4096 };
+    ghost invariant = { λ t. t.len ≤ room_bytes };
 }
 
 impl TextBuffer {
@@ -62,7 +62,7 @@ impl TextBuffer {
         ensures { result ≡ record { bytes = []; failed = false } }
     {
         TextBuffer {
-            held: [0; ROOM],
+            held: [0; ROOM_BYTES],
             len: 0,
             failed: false,
         }
@@ -72,12 +72,12 @@ impl TextBuffer {
     pub fn text<K: Sink>(&mut self, sink: &mut K, text: &[u8])
         ensures { GoesOn (K.state sink.old) self.old (K.state sink.new) self.new text.now }
     {
-        if text.len() <= ROOM - self.len {
+        if text.len() <= ROOM_BYTES - self.len {
             self.wait(text);
             return;
         }
         self.put_waiting(sink);
-        if text.len() <= ROOM {
+        if text.len() <= ROOM_BYTES {
             self.wait(text);
         } else {
             self.failed = put_unless(self.failed, sink, text);
@@ -106,7 +106,7 @@ impl TextBuffer {
 impl TextBuffer {
     /// Lets these bytes wait, for which there is room.
     fn wait(&mut self, text: &[u8])
-        requires { length self.old.bytes + length text.now ≤ 4096 }
+        requires { length self.old.bytes + length text.now ≤ room_bytes }
         ensures { self.new ≡ record { bytes = self.old.bytes ++ text.now; failed = self.old.failed } }
     {
         keep(&mut self.held, self.len, text);
@@ -125,8 +125,8 @@ impl TextBuffer {
 }
 
 /// Copies a text to this place of the buffer.
-fn keep(held: &mut [u8; ROOM], place: usize, text: &[u8])
-    requires { place + length text.now ≤ 4096 }
+fn keep(held: &mut [u8; ROOM_BYTES], place: usize, text: &[u8])
+    requires { place + length text.now ≤ room_bytes }
     ensures { take (place + length text.now) held.new ≡ take place held.old ++ text.now }
 {
     held[place..place + text.len()].copy_from_slice(text);

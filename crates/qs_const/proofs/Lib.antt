@@ -3,7 +3,7 @@ pub mod WholePowers
 pub mod PowerLemmas
 pub mod ShiftLemmas
 pub mod SmallNumbers
-pub mod PiNames
-pub mod FoldingRows
-pub mod OneMade
-pub mod OneOutcome
+pub mod NameLemmas
+pub mod OneResult
+pub mod OneJudgement
+pub mod FoldLemmas

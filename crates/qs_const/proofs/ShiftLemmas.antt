@@ -1,16 +1,17 @@
 -- Shifts of whole numbers.
-use Rattle.std.proofs.Common.{◌≡◌, ◌+◌, ◌*◌, ◌/◌, ◌%◌, ◌^◌, ◌<◌, ◌≤◌, ℕ, zero, suc, ℤ, pos, negsuc, ◌+ℤ◌, ◌*ℤ◌, ◌≤ℤ◌, ◌<ℤ◌, unsigned_abs, Option, Some, None, inl, inr, refl, arith, FitsSigned, to_z, of_z}
+use Rattle.std.proofs.Common.{◌≡◌, ◌+◌, ◌*◌, ◌/◌, ◌%◌, ◌^◌, ◌<◌, ◌≤◌, ℕ, zero, suc, ℤ, pos, negsuc, ◌+ℤ◌, ◌*ℤ◌, ◌≤ℤ◌, ◌<ℤ◌, unsigned_abs, Some, Result, inl, inr, refl, arith, FitsSigned, to_z, of_z}
 use mir.Syntax.{Width, w64, w128}
 use lib.Signed.{mag_shr, shr_z}
 use Rattle.std.proofs.Math.Nat.{pow-le-pow_right}
 use Rattle.std.proofs.lemmas.Nat.{mul-lt}
 use Rattle.std.proofs.lemmas.Int.{ints, to_z-of_z, unsigned_abs-mul}
 use Rattle.qs_values.proofs.NumberLemmas.{fits_below}
+use Rattle.qs_values.specs.declared.number.Num.{Num}
 use Rattle.qs_tree.specs.declared.constant.ConstVal.{ConstVal}
 use Rattle.qs_tree.specs.declared.constant.ConstVal.TheVariants.{Number, Truth, Bits}
-use Rattle.qs_const.specs.declared.made.Made.{Made}
-use Rattle.qs_const.specs.Operations.{ShiftMakes}
-use Rattle.qs_const.specs.Wholes.{CountIs, OperandIs}
+use Rattle.qs_const.specs.declared.cause.Cause.{Cause}
+use Rattle.qs_const.specs.Operations.{ShiftGives}
+use Rattle.qs_const.specs.steps.Wholes.{CountIs, OperandIs}
 use Rattle.qs_const.proofs.WholeLemmas.{fits_i64, widened}
 
 -- a number that fits still does after a shift to the right
@@ -59,19 +60,12 @@ shift_down_coded j n p =
     rw (to_z-of_z w64 j fits, widened (of_z w64 (shr_z j (2 ^ n)))) (to_z-of_z w64 (shr_z j (2 ^ n)) (shr_fits w64 j (2 ^ n) fits))
 
 -- a count is at most 63
-pub count_below : (v : Option ConstVal) (n : ℕ) → CountIs v (Some n) → n ≤ 63
-count_below (Some (Number y)) n h = h.1
-count_below (Some (Truth b)) n h = absurd h
-count_below (Some (Bits b)) n h = absurd h
-count_below None n h = absurd cc
+pub count_below : (y : Num) (n : ℕ) → CountIs y (Some n) → n ≤ 63
+count_below y n h = h.1
 
--- what a whole operand and a count make
-pub on_shift : (Shifts : ℤ → ℕ → Made → Type 0) (left right : Option ConstVal) (j : ℤ) (n : ℕ) (made : Made)
-    → OperandIs left (Some j) → CountIs right (Some n) → Shifts j n made → ShiftMakes Shifts left right made
-on_shift Shifts (Some (Number x)) (Some (Number y)) j n made p q h = inr (inl (n, q, inl (j, p.0, h)))
-on_shift Shifts (Some (Truth b)) (Some (Number y)) j n made p q h = absurd cc
-on_shift Shifts (Some (Bits b)) (Some (Number y)) j n made p q h = absurd cc
-on_shift Shifts None (Some (Number y)) j n made p q h = absurd cc
-on_shift Shifts left (Some (Truth b)) j n made p q h = absurd q
-on_shift Shifts left (Some (Bits b)) j n made p q h = absurd q
-on_shift Shifts left None j n made p q h = absurd cc
+-- what a whole operand and a count give
+pub on_shift : (Shifts : ℤ → ℕ → Result ConstVal Cause → Type 0) (left : ConstVal) (y : Num) (j : ℤ) (n : ℕ) (result : Result ConstVal Cause)
+    → OperandIs left (Some j) → CountIs y (Some n) → Shifts j n result → ShiftGives Shifts left (Number y) result
+on_shift Shifts (Number x) y j n result p q h = inr (inl (n, q, inl (j, p.0, h)))
+on_shift Shifts (Truth b) y j n result p q h = absurd cc
+on_shift Shifts (Bits b) y j n result p q h = absurd cc

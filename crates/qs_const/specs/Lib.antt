@@ -1,7 +1,10 @@
 pub mod Trees
-pub mod Codes
-pub mod Outcomes
+pub mod Scopes
+pub mod Causes
 pub mod Operations
+pub mod Operands
+pub mod WithoutValue
+pub mod Judging
 pub mod Folding
-pub mod Wholes
+pub mod steps
 pub mod Once

@@ -1,10 +1,10 @@
--- A constant expression comes to one thing. This project's own.
-use Rattle.std.specs.Prelude.{◌≡◌, List}
-use Rattle.qs_tree.specs.declared.constant.Const.{Const}
-use Rattle.qs_const.specs.declared.folded.Folded.{Folded}
+-- An expression comes to one thing. This project's own.
+use Rattle.std.specs.Prelude.{◌≡◌}
+use Rattle.qs_const.specs.declared.judgement.Judgement.{Judgement}
+use Rattle.qs_const.specs.Judging.{ComesTo}
+use Rattle.qs_const.specs.Scopes.{Scope}
 use Rattle.qs_const.specs.Trees.{Tree}
-use Rattle.qs_const.specs.Folding.{Folds}
 
--- It comes to at most one value, or is without one, with one first refusal or none.
-abbrev pub FoldsOnce : Type 0
-FoldsOnce = (consts : List Const) (tree : Tree) (one other : Folded) → Folds consts tree one → Folds consts tree other → one ≡ other
+-- It comes to at most one value, or is without one, with one first cause or none and the same kinds.
+abbrev pub ComesToOne : Type 0
+ComesToOne = (scope : Scope) (tree : Tree) (one other : Judgement) → ComesTo scope tree one → ComesTo scope tree other → one ≡ other

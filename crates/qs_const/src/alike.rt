@@ -1,53 +1,52 @@
 ghost use Rattle.std.specs.Prelude.{◌≡◌};
-ghost use Rattle.std.specs.Option.{option_copied};
-ghost use Rattle.qs_const.specs.Operations.{AlikeMakes, WholesMake, truths_made};
+ghost use Rattle.qs_const.specs.Operations.{AlikeGive, WholesGive, truths_give};
 
-use crate::made::Made;
-use crate::whole::{whole_made, whole_operand};
+use crate::cause::Cause;
+use crate::whole::{whole_operand, whole_result};
 use qs_tree::{BinOp, ConstVal};
 
-/// What a comparison, or an operator on bits or on truth values, makes of two whole numbers or of
-/// two truth values; other operands make nothing.
-pub fn alike_made(op: BinOp, left: Option<&ConstVal>, right: Option<&ConstVal>) -> Made
-    ensures { AlikeMakes op (option_copied left.entry) (option_copied right.entry) result }
+/// What a comparison, or an operator on bits or on truth values, gives for two whole numbers or for
+/// two truth values; other constants have no rule.
+pub fn alike(op: BinOp, left: &ConstVal, right: &ConstVal) -> Result<ConstVal, Cause>
+    ensures { AlikeGive op left.now right.now result }
 {
     match (left, right) {
-        (Some(ConstVal::Truth(a)), Some(ConstVal::Truth(b))) => truths_made(op, *a, *b),
+        (ConstVal::Truth(a), ConstVal::Truth(b)) => truths_give(op, *a, *b),
         _ => match (whole_operand(left), whole_operand(right)) {
-            (Some(j), Some(k)) => wholes_made(op, j, k),
-            _ => Made::Nothing,
+            (Some(j), Some(k)) => wholes_give(op, j, k),
+            _ => Err(Cause::NoRule),
         },
     }
 }
 
-/// What an operator makes of two whole numbers. Bits are those of signed 64-bit numbers, and a
+/// What an operator gives for two whole numbers. Bits are those of signed 64-bit numbers, and a
 /// result that reaches 10^18 in size is `TooWide`.
-fn wholes_made(op: BinOp, j: i64, k: i64) -> Made
-    ensures { WholesMake op j k result }
+fn wholes_give(op: BinOp, j: i64, k: i64) -> Result<ConstVal, Cause>
+    ensures { WholesGive op j k result }
 {
     match op {
-        BinOp::Less => Made::Gives(ConstVal::Truth(j < k)),
-        BinOp::LessEqual => Made::Gives(ConstVal::Truth(j <= k)),
-        BinOp::Greater => Made::Gives(ConstVal::Truth(j > k)),
-        BinOp::GreaterEqual => Made::Gives(ConstVal::Truth(j >= k)),
-        BinOp::Equal => Made::Gives(ConstVal::Truth(j == k)),
-        BinOp::NotEqual => Made::Gives(ConstVal::Truth(j != k)),
-        BinOp::BitAnd => whole_made((j & k) as i128),
-        BinOp::BitXor => whole_made((j ^ k) as i128),
-        BinOp::BitOr => whole_made((j | k) as i128),
-        _ => Made::Nothing,
+        BinOp::Less => Ok(ConstVal::Truth(j < k)),
+        BinOp::LessEqual => Ok(ConstVal::Truth(j <= k)),
+        BinOp::Greater => Ok(ConstVal::Truth(j > k)),
+        BinOp::GreaterEqual => Ok(ConstVal::Truth(j >= k)),
+        BinOp::Equal => Ok(ConstVal::Truth(j == k)),
+        BinOp::NotEqual => Ok(ConstVal::Truth(j != k)),
+        BinOp::BitAnd => whole_result((j & k) as i128),
+        BinOp::BitXor => whole_result((j ^ k) as i128),
+        BinOp::BitOr => whole_result((j | k) as i128),
+        _ => Err(Cause::NoRule),
     }
 }
 
-/// What an operator makes of two truth values.
-fn truths_made(op: BinOp, a: bool, b: bool) -> Made
-    ensures { result ≡ truths_made op a b }
+/// What an operator gives for two truth values.
+fn truths_give(op: BinOp, a: bool, b: bool) -> Result<ConstVal, Cause>
+    ensures { result ≡ truths_give op a b }
 {
     match op {
-        BinOp::Equal => Made::Gives(ConstVal::Truth(a == b)),
-        BinOp::NotEqual => Made::Gives(ConstVal::Truth(a != b)),
-        BinOp::And => Made::Gives(ConstVal::Truth(a && b)),
-        BinOp::Or => Made::Gives(ConstVal::Truth(a || b)),
-        _ => Made::Nothing,
+        BinOp::Equal => Ok(ConstVal::Truth(a == b)),
+        BinOp::NotEqual => Ok(ConstVal::Truth(a != b)),
+        BinOp::And => Ok(ConstVal::Truth(a && b)),
+        BinOp::Or => Ok(ConstVal::Truth(a || b)),
+        _ => Err(Cause::NoRule),
     }
 }

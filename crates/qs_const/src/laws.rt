@@ -1,6 +1,6 @@
-ghost use Rattle.qs_const.specs.Once.{FoldsOnce};
+ghost use Rattle.qs_const.specs.Once.{ComesToOne};
 
-/// A law of constant expressions: one comes to one value, or to one first refusal, or to neither.
-pub fn folded_once()
-    ensures { FoldsOnce }
+/// A law of expressions: one comes to one value, or to one first cause, or to neither.
+pub fn comes_to_one()
+    ensures { ComesToOne }
 {}

@@ -1,37 +1,36 @@
-ghost use Rattle.std.specs.Option.{option_copied};
 ghost use Rattle.qs_values.specs.Number.{DifferenceIs, ProductIs, SumIs};
 ghost use Rattle.qs_const.specs.Operations.{ByResult, OfNumbers};
 
-use crate::made::Made;
-use crate::whole::number_made;
+use crate::cause::Cause;
+use crate::whole::number_result;
 use qs_tree::ConstVal;
 
-/// The sum of two numbers; other operands make nothing.
-pub fn sum_made(left: Option<&ConstVal>, right: Option<&ConstVal>) -> Made
-    ensures { OfNumbers (ByResult SumIs) (option_copied left.entry) (option_copied right.entry) result }
+/// The sum of two numbers; other constants have no rule.
+pub fn sum(left: &ConstVal, right: &ConstVal) -> Result<ConstVal, Cause>
+    ensures { OfNumbers (ByResult SumIs) left.now right.now result }
 {
     match (left, right) {
-        (Some(ConstVal::Number(x)), Some(ConstVal::Number(y))) => number_made(x.add(y)),
-        _ => Made::Nothing,
+        (ConstVal::Number(x), ConstVal::Number(y)) => number_result(x.add(y)),
+        _ => Err(Cause::NoRule),
     }
 }
 
-/// The difference of two numbers; other operands make nothing.
-pub fn difference_made(left: Option<&ConstVal>, right: Option<&ConstVal>) -> Made
-    ensures { OfNumbers (ByResult DifferenceIs) (option_copied left.entry) (option_copied right.entry) result }
+/// The difference of two numbers; other constants have no rule.
+pub fn difference(left: &ConstVal, right: &ConstVal) -> Result<ConstVal, Cause>
+    ensures { OfNumbers (ByResult DifferenceIs) left.now right.now result }
 {
     match (left, right) {
-        (Some(ConstVal::Number(x)), Some(ConstVal::Number(y))) => number_made(x.sub(y)),
-        _ => Made::Nothing,
+        (ConstVal::Number(x), ConstVal::Number(y)) => number_result(x.sub(y)),
+        _ => Err(Cause::NoRule),
     }
 }
 
-/// The product of two numbers; other operands make nothing.
-pub fn product_made(left: Option<&ConstVal>, right: Option<&ConstVal>) -> Made
-    ensures { OfNumbers (ByResult ProductIs) (option_copied left.entry) (option_copied right.entry) result }
+/// The product of two numbers; other constants have no rule.
+pub fn product(left: &ConstVal, right: &ConstVal) -> Result<ConstVal, Cause>
+    ensures { OfNumbers (ByResult ProductIs) left.now right.now result }
 {
     match (left, right) {
-        (Some(ConstVal::Number(x)), Some(ConstVal::Number(y))) => number_made(x.mul(y)),
-        _ => Made::Nothing,
+        (ConstVal::Number(x), ConstVal::Number(y)) => number_result(x.mul(y)),
+        _ => Err(Cause::NoRule),
     }
 }

@@ -1,9 +1,10 @@
-ghost use Rattle.std.specs.Prelude.{◌≡◌, ◌<◌, ◌^◌, unsigned_abs};
-ghost use Rattle.std.specs.Option.{option_copied};
-ghost use Rattle.qs_const.specs.Operations.{MakesWhole, number_made};
-ghost use Rattle.qs_const.specs.Wholes.{CountIs, NoCountMakes, OperandIs, WholeIs};
+ghost use Rattle.std.specs.Prelude.{◌≡◌, ◌⊎◌, ◌<◌, ◌^◌, Err, unsigned_abs};
+ghost use Rattle.qs_values.specs.declared.refusal.NumRefusal.TheVariants.{TooWide};
+ghost use Rattle.qs_const.specs.declared.cause.Cause.TheVariants.{NoRule, Number as OfNumber};
+ghost use Rattle.qs_const.specs.Operations.{GivesWhole, IsNoCount, IsNotWhole, number_result};
+ghost use Rattle.qs_const.specs.steps.Wholes.{CountIs, OperandIs, WholeIs};
 
-use crate::made::{Cause, Made};
+use crate::cause::Cause;
 use qs_tree::ConstVal;
 use qs_values::{Frac, Num, NumRefusal};
 
@@ -18,62 +19,57 @@ pub fn whole(x: &Num) -> Option<i64>
     }
 }
 
-/// The whole number that an operand is, or `None` where it is no whole number.
-pub fn whole_operand(operand: Option<&ConstVal>) -> Option<i64>
-    ensures { OperandIs (option_copied operand.entry) result }
+/// The whole number that a constant is, or `None` where it is no whole number.
+pub fn whole_operand(operand: &ConstVal) -> Option<i64>
+    ensures { OperandIs operand.now result }
 {
     match operand {
-        Some(ConstVal::Number(x)) => whole(x),
+        ConstVal::Number(x) => whole(x),
         _ => None,
     }
 }
 
-/// The count from 0 to 63 that an operand is, or `None` where it is none.
-pub fn count(operand: Option<&ConstVal>) -> Option<u32>
-    ensures { CountIs (option_copied operand.entry) result }
+/// The count from 0 to 63 that a number is, or `None` where it is none.
+pub fn count(y: &Num) -> Option<u32>
+    ensures { CountIs y.now result }
 {
-    match whole_operand(operand) {
+    match whole(y) {
         Some(k) if 0 <= k && k <= 63 => Some(k as u32),
         _ => None,
     }
 }
 
-/// What an operand that is no count makes as one: `TooWide`, where it has no pi and is below 0 or
-/// above 63.
-pub fn no_count_made(operand: Option<&ConstVal>) -> Made
-    ensures { NoCountMakes (option_copied operand.entry) result }
+/// What a number that is no count gives as one: `TooWide` where it is whole, and else no rule.
+pub fn no_count(y: &Num) -> Result<ConstVal, Cause>
+    requires { IsNotWhole y.now ⊎ IsNoCount y.now }
+    ensures { (IsNoCount y.now × (result ≡ Err (OfNumber TooWide))) ⊎ (IsNotWhole y.now × (result ≡ Err NoRule)) }
 {
-    let Some(ConstVal::Number(y)) = operand else {
-        return Made::Nothing;
-    };
-    let num = y.plain.num();
-    if y.pi.num() == 0 && (num < 0 || num > 63 * y.plain.den()) {
-        Made::Breaks(Cause::Number(NumRefusal::TooWide))
-    } else {
-        Made::Nothing
+    match whole(y) {
+        Some(_) => Err(Cause::Number(NumRefusal::TooWide)),
+        None => Err(Cause::NoRule),
     }
 }
 
-/// What a whole number makes: the number, or `TooWide` where it reaches 10^18 in size.
-pub fn whole_made(k: i128) -> Made
+/// What a whole number gives: the number, or `TooWide` where it reaches 10^18 in size.
+pub fn whole_result(k: i128) -> Result<ConstVal, Cause>
     requires { unsigned_abs k < 10 ^ 37 }
-    ensures { MakesWhole k result }
+    ensures { GivesWhole k result }
 {
     match Frac::of(k, 1) {
-        Ok(plain) => Made::Gives(ConstVal::Number(Num {
+        Ok(plain) => Ok(ConstVal::Number(Num {
             plain,
             pi: Frac::whole(0),
         })),
-        Err(_) => Made::Breaks(Cause::Number(NumRefusal::TooWide)),
+        Err(_) => Err(Cause::Number(NumRefusal::TooWide)),
     }
 }
 
-/// What a result among numbers makes: the number, or its refusal.
-pub fn number_made(number: Result<Num, NumRefusal>) -> Made
-    ensures { result ≡ number_made number }
+/// What a result among numbers gives: the number, or its refusal.
+pub fn number_result(number: Result<Num, NumRefusal>) -> Result<ConstVal, Cause>
+    ensures { result ≡ number_result number }
 {
     match number {
-        Ok(x) => Made::Gives(ConstVal::Number(x)),
-        Err(refusal) => Made::Breaks(Cause::Number(refusal)),
+        Ok(x) => Ok(ConstVal::Number(x)),
+        Err(refusal) => Err(Cause::Number(refusal)),
     }
 }

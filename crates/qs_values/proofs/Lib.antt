@@ -5,3 +5,4 @@ pub mod OneQuotient
 pub mod FracOnce
 pub mod OneNumber
 pub mod AsciiWords
+pub mod WordLemmas

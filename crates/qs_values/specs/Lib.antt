@@ -1,5 +1,7 @@
 pub mod formers
+pub mod steps
 pub mod Angle
+pub mod AngleVal
 pub mod Kind
 pub mod Lowest
 pub mod Names

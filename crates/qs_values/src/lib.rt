@@ -28,4 +28,4 @@ pub use refusal::{Halt, Memory, NumRefusal, Refusal};
 pub use span::Span;
 pub use stretch::{Affine, Group, Part1, Row};
 pub use tape::{FrameStart, Tape};
-pub use word::{begins_word, continues_word, is_name};
+pub use word::{begins_word, continues_word, is_name, is_reserved};

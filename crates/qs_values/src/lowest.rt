@@ -2,6 +2,23 @@ ghost use Rattle.std.specs.Prelude.{◌<◌, ◌≢◌, ◌^◌, pos, ◌<ℤ◌
 ghost use Rattle.std.specs.Int.{IsGcd};
 ghost use Rattle.qs_values.specs.Lowest.{IsLowest};
 
+/// 2^64, which a number of one machine word is below.
+const WORD: u128 = 18_446_744_073_709_551_616;
+
+/// The greatest common divisor, by Euclid's algorithm on one machine word.
+fn word_gcd(a: u64, b: u64) -> u64
+    ensures { IsGcd a b result }
+{
+    let mut whole = a;
+    let mut part = b;
+    'steps: while part != 0 {
+        let rest = whole % part;
+        whole = part;
+        part = rest;
+    }
+    whole
+}
+
 /// The greatest common divisor, by Euclid's algorithm.
 fn gcd(a: u128, b: u128) -> u128
     ensures { IsGcd a b result }
@@ -9,6 +26,9 @@ fn gcd(a: u128, b: u128) -> u128
     let mut whole = a;
     let mut part = b;
     'steps: while part != 0 {
+        if whole < WORD && part < WORD {
+            return word_gcd(whole as u64, part as u64) as u128;
+        }
         let rest = whole % part;
         whole = part;
         part = rest;

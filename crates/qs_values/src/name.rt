@@ -28,7 +28,7 @@ impl Name {
         Name { held }
     }
 
-    /// A copy of a text; an error where memory is wanting.
+    /// A copy of a text; out of memory is the only error.
     pub fn copy_of(alloc: Global, text: &str) -> Result<Name, AllocError>
         ensures { IfOk result (λ n. n ≡ text.now) }
     {

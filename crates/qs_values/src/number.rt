@@ -1,13 +1,14 @@
 ghost use Rattle.std.specs.Prelude.{◌<◌, ◌≡◌, ◌≢◌, ◌^◌, pos, ◌<ℤ◌, ◌+ℤ◌, ◌-ℤ◌, ◌*ℤ◌, unsigned_abs};
 ghost use Rattle.std.specs.Int.{IsGcd};
 ghost use Rattle.std.proofs.Props.{props};
+ghost use Rattle.qs_values.specs.AngleVal.{IsAngleVal};
 ghost use Rattle.qs_values.specs.Lowest.{IsNarrow};
 
 use crate::lowest::lowest;
 use crate::refusal::NumRefusal;
 
-/// What both parts of a fraction are below in size.
-const LIMIT: u128 = 1_000_000_000_000_000_000;
+/// 10^18, which both parts of a fraction are below in size.
+const PART_BOUND: u128 = 1_000_000_000_000_000_000;
 
 /// A fraction in lowest terms, with a denominator above 0 and both parts below 10^18 in size.
 #[derive(Clone, Copy, Debug, PartialEq, Eq)]
@@ -26,15 +27,17 @@ pub struct Num {
     pub pi: Frac,
 }
 
-/// The angle `k / 2^width` of a full turn.
+/// The angle `k / 2^width` of a full turn, of a width from 1 to 32 bits and with `k` below 2^width.
 #[derive(Clone, Copy, Debug, PartialEq, Eq)]
 pub struct AngleVal {
     pub width: u8,
     pub k: u64,
+    pub ghost form: { IsAngleVal width k } by { Prim.hlevel props },
 }
 
 impl Frac {
     ghost use Rattle.qs_values.specs.Number.{QuotientIs};
+    ghost use Rattle.qs_values.specs.steps.Parts.{FracSumIs, FracDifferenceIs};
 
     /// A whole number as a fraction.
     pub fn whole(value: i32) -> Frac
@@ -60,7 +63,7 @@ impl Frac {
             return Err(NumRefusal::ByZero);
         }
         let (num, den) = lowest(num, den);
-        if num.unsigned_abs() >= LIMIT || den.unsigned_abs() >= LIMIT {
+        if num.unsigned_abs() >= PART_BOUND || den.unsigned_abs() >= PART_BOUND {
             return Err(NumRefusal::TooWide);
         }
         Ok(Frac { num, den })
@@ -82,7 +85,7 @@ impl Frac {
 
     /// The sum.
     fn plus(self, other: Frac) -> Result<Frac, NumRefusal>
-        ensures { QuotientIs ((self.num *ℤ other.den) +ℤ (other.num *ℤ self.den)) (self.den *ℤ other.den) result }
+        ensures { FracSumIs self other result }
     {
         Frac::of(
             self.num * other.den + other.num * self.den,
@@ -92,7 +95,7 @@ impl Frac {
 
     /// The difference.
     fn minus(self, other: Frac) -> Result<Frac, NumRefusal>
-        ensures { QuotientIs ((self.num *ℤ other.den) -ℤ (other.num *ℤ self.den)) (self.den *ℤ other.den) result }
+        ensures { FracDifferenceIs self other result }
     {
         Frac::of(
             self.num * other.den - other.num * self.den,
@@ -116,7 +119,8 @@ impl Frac {
 }
 
 impl Num {
-    ghost use Rattle.qs_values.specs.Number.{NumberIs, SumIs, DifferenceIs, ScaledIs, ProductIs, RatioIs};
+    ghost use Rattle.qs_values.specs.Number.{SumIs, DifferenceIs, ScaledIs, ProductIs, RatioIs};
+    ghost use Rattle.qs_values.specs.steps.Parts.{DividedIs};
 
     /// The sum.
     ///
@@ -174,7 +178,7 @@ impl Num {
     /// The number over a fraction that isn't 0.
     fn divided(&self, divisor: Frac) -> Result<Num, NumRefusal>
         requires { divisor.num ≢ pos 0 }
-        ensures { NumberIs (self.now.plain.num *ℤ divisor.den) (self.now.plain.den *ℤ divisor.num) (self.now.pi.num *ℤ divisor.den) (self.now.pi.den *ℤ divisor.num) result }
+        ensures { DividedIs self.now divisor result }
     {
         Ok(Num {
             plain: self.plain.over(divisor)?,

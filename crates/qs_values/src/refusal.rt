@@ -7,7 +7,7 @@ use std::alloc::{AllocError, AllocFailed};
 use thiserror::Error;
 
 /// Why a source, a table or a tape is refused: the code, its place in the source where it has one,
-/// and the words that are printed behind the code's name.
+/// and the words that are printed after the code's name.
 #[derive(Debug, Drop)]
 pub struct Refusal {
     pub code: u16,
@@ -48,7 +48,7 @@ impl NumRefusal {
     }
 }
 
-/// Want of memory.
+/// Out of memory.
 #[derive(Clone, Copy, Debug, PartialEq, Eq)]
 pub struct Memory;
 
@@ -72,9 +72,9 @@ pub enum Halt {
 }
 
 impl From<AllocError> for Halt {
-    ghost use Rattle.qs_values.specs.declared.refusal.Halt.TheVariants.{Memory as WantOfMemory};
+    ghost use Rattle.qs_values.specs.declared.refusal.Halt.TheVariants.{Memory as OutOfMemory};
 
-    ghost from_gives = { λ _ halt. halt ≡ WantOfMemory };
+    ghost from_gives = { λ _ halt. halt ≡ OutOfMemory };
 
     fn from(_: AllocError) -> Halt {
         Halt::Memory
@@ -82,9 +82,9 @@ impl From<AllocError> for Halt {
 }
 
 impl From<Memory> for Halt {
-    ghost use Rattle.qs_values.specs.declared.refusal.Halt.TheVariants.{Memory as WantOfMemory};
+    ghost use Rattle.qs_values.specs.declared.refusal.Halt.TheVariants.{Memory as OutOfMemory};
 
-    ghost from_gives = { λ _ halt. halt ≡ WantOfMemory };
+    ghost from_gives = { λ _ halt. halt ≡ OutOfMemory };
 
     fn from(_: Memory) -> Halt {
         Halt::Memory

@@ -1,10 +1,10 @@
 ghost use Rattle.std.specs.Prelude.{◌≤◌};
 
-use crate::{Boxed, Frac, Num, NumRefusal, is_name, to_angle};
+use crate::{AngleVal, Boxed, Frac, Num, NumRefusal, is_name, is_reserved, to_angle};
 use std::test::Fail;
 
 /// 10^18, which both parts of a fraction are below in size.
-const LIMIT: i64 = 1_000_000_000_000_000_000;
+const PART_BOUND: i64 = 1_000_000_000_000_000_000;
 
 fn fraction(num: i64, den: i64) -> Result<Frac, NumRefusal> {
     Frac::of(num as i128, den as i128)
@@ -30,14 +30,14 @@ fn parts(number: Num) -> [i128; 4] {
 #[test]
 fn fractions(rt: HostRuntime) {
     let table = [
-        (LIMIT - 1, 1, Ok((999_999_999_999_999_999, 1))),
-        (LIMIT, 1, Err(NumRefusal::TooWide)),
-        (-LIMIT, 1, Err(NumRefusal::TooWide)),
-        (1, LIMIT - 1, Ok((1, 999_999_999_999_999_999))),
-        (1, LIMIT, Err(NumRefusal::TooWide)),
-        (1, -LIMIT, Err(NumRefusal::TooWide)),
-        (LIMIT, 10, Ok((100_000_000_000_000_000, 1))),
-        (-LIMIT, 2 * LIMIT, Ok((-1, 2))),
+        (PART_BOUND - 1, 1, Ok((999_999_999_999_999_999, 1))),
+        (PART_BOUND, 1, Err(NumRefusal::TooWide)),
+        (-PART_BOUND, 1, Err(NumRefusal::TooWide)),
+        (1, PART_BOUND - 1, Ok((1, 999_999_999_999_999_999))),
+        (1, PART_BOUND, Err(NumRefusal::TooWide)),
+        (1, -PART_BOUND, Err(NumRefusal::TooWide)),
+        (PART_BOUND, 10, Ok((100_000_000_000_000_000, 1))),
+        (-PART_BOUND, 2 * PART_BOUND, Ok((-1, 2))),
         (3, -6, Ok((-1, 2))),
         (-3, -6, Ok((1, 2))),
         (0, 5, Ok((0, 1))),
@@ -87,19 +87,19 @@ const NUMBERS: [Row; 18] = [
         Ok([0, 1, -1, 4]),
     ),
     (
-        [LIMIT - 1, 1, 0, 1],
+        [PART_BOUND - 1, 1, 0, 1],
         Operation::Add,
         [1, 1, 0, 1],
         Err(NumRefusal::TooWide),
     ),
     (
-        [0, 1, LIMIT - 1, 1],
+        [0, 1, PART_BOUND - 1, 1],
         Operation::Add,
         [0, 1, 1, 1],
         Err(NumRefusal::TooWide),
     ),
     (
-        [1 - LIMIT, 1, 0, 1],
+        [1 - PART_BOUND, 1, 0, 1],
         Operation::Sub,
         [1, 1, 0, 1],
         Err(NumRefusal::TooWide),
@@ -175,11 +175,14 @@ fn numbers(rt: HostRuntime) {
     }
 }
 
-fn angle(parts: [i64; 4], width: u8) -> Result<u64, NumRefusal>
+fn angle(parts: [i64; 4], width: u8) -> Result<AngleVal, NumRefusal>
     requires low { 1 ≤ width }
     requires high { width ≤ 32 }
 {
-    Ok(to_angle(&number(parts)?, width))
+    Ok(AngleVal {
+        width,
+        k: to_angle(&number(parts)?, width),
+    })
 }
 
 #[test]
@@ -191,8 +194,8 @@ fn angles(rt: HostRuntime) {
         ([1, 3, 0, 1], 32, 227_855_092),
         ([-1, 3, 0, 1], 32, 4_067_112_204),
         ([100_000_000_000_000_000, 1, 0, 1], 32, 2_444_266_046),
-        ([1 - LIMIT, 1, 1 - LIMIT, 1], 32, 4_158_192_240),
-        ([1, LIMIT - 1, 1, LIMIT - 1], 32, 0),
+        ([1 - PART_BOUND, 1, 1 - PART_BOUND, 1], 32, 4_158_192_240),
+        ([1, PART_BOUND - 1, 1, PART_BOUND - 1], 32, 0),
         ([0, 1, 1, 3], 20, 174_763),
         ([0, 1, -1, 3], 20, 873_813),
         ([1, 2, 1, 4], 8, 52),
@@ -204,7 +207,8 @@ fn angles(rt: HostRuntime) {
     ];
     for (parts, width, want) in table {
         assert!(rt; 1 <= width && width <= 32);
-        assert_eq!(rt; angle(parts, width), Ok(want), "{parts:?} in {width} bits");
+        let got = angle(parts, width).map(|angle| angle.k);
+        assert_eq!(rt; got, Ok(want), "{parts:?} in {width} bits");
     }
 }
 
@@ -230,6 +234,7 @@ fn names(rt: HostRuntime) {
     for (text, want) in table {
         assert_eq!(rt; is_name(text), want, "{text}");
     }
+    assert!(rt; is_reserved("waveform") && !is_reserved("wave"));
 }
 
 #[test]

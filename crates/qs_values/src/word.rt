@@ -1,68 +1,9 @@
-ghost use Rattle.std.specs.Prelude.{◌≡◌};
+ghost use Rattle.std.specs.Prelude.{◌≡◌, map};
 ghost use Rattle.std.specs.Str.{chars};
 ghost use Rattle.qs_values.specs.Names.{is_letter, begins_word, continues_word, is_word, is_reserved, is_name};
+ghost use Rattle.qs_values.specs.steps.ReservedWords.{reserved_with};
 
 use unicode::properties::GeneralCategory;
-
-/// The reserved words, those that this project leaves out among them.
-const RESERVED: [&str; 56] = [
-    "OPENQASM",
-    "include",
-    "defcalgrammar",
-    "qubit",
-    "bit",
-    "bool",
-    "int",
-    "uint",
-    "angle",
-    "duration",
-    "stretch",
-    "const",
-    "input",
-    "output",
-    "gate",
-    "measure",
-    "reset",
-    "barrier",
-    "delay",
-    "box",
-    "if",
-    "else",
-    "while",
-    "for",
-    "in",
-    "break",
-    "continue",
-    "end",
-    "cal",
-    "defcal",
-    "inv",
-    "pow",
-    "ctrl",
-    "negctrl",
-    "true",
-    "false",
-    "durationof",
-    "port",
-    "frame",
-    "waveform",
-    "extern",
-    "return",
-    "array",
-    "let",
-    "complex",
-    "float",
-    "qreg",
-    "creg",
-    "switch",
-    "case",
-    "default",
-    "def",
-    "sizeof",
-    "void",
-    "readonly",
-    "mutable",
-];
 
 /// Whether the characters of a category begin a word.
 fn is_letter(category: GeneralCategory) -> bool
@@ -105,11 +46,54 @@ fn is_word(text: &str) -> bool
     }
 }
 
+/// The reserved words that begin with a byte, those that this project leaves out among them.
+fn reserved_with(first: u8) -> &'static [&'static str]
+    ensures { map (λ word. word.now) result.now ≡ reserved_with first }
+{
+    match first {
+        b'O' => &["OPENQASM"],
+        b'a' => &["angle", "array"],
+        b'b' => &["bit", "bool", "barrier", "box", "break"],
+        b'c' => &[
+            "const", "continue", "cal", "ctrl", "complex", "creg", "case",
+        ],
+        b'd' => &[
+            "defcalgrammar",
+            "duration",
+            "delay",
+            "defcal",
+            "durationof",
+            "default",
+            "def",
+        ],
+        b'e' => &["else", "end", "extern"],
+        b'f' => &["for", "false", "frame", "float"],
+        b'g' => &["gate"],
+        b'i' => &["include", "int", "input", "if", "in", "inv"],
+        b'l' => &["let"],
+        b'm' => &["measure", "mutable"],
+        b'n' => &["negctrl"],
+        b'o' => &["output"],
+        b'p' => &["pow", "port"],
+        b'q' => &["qubit", "qreg"],
+        b'r' => &["reset", "return", "readonly"],
+        b's' => &["stretch", "switch", "sizeof"],
+        b't' => &["true"],
+        b'u' => &["uint"],
+        b'v' => &["void"],
+        b'w' => &["while", "waveform"],
+        _ => &[],
+    }
+}
+
 /// Whether a text is a reserved word of OpenQASM 3.0, also one that this project leaves out.
-fn is_reserved(text: &str) -> bool
+pub fn is_reserved(text: &str) -> bool
     ensures { result ≡ is_reserved text.now }
 {
-    RESERVED.iter().any(|word| text == *word)
+    match text.as_bytes().first() {
+        Some(first) => reserved_with(*first).iter().any(|word| text == *word),
+        None => false,
+    }
 }
 
 /// Whether a text is a name: a word that isn't reserved (OpenQASM 3.0, identifiers).
