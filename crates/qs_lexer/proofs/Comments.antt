@@ -7,7 +7,7 @@ use Rattle.qs_lexer.specs.declared.shape.Shape.{Shape}
 use Rattle.qs_lexer.specs.declared.shape.Shape.TheVariants as shape
 use Rattle.qs_lexer.specs.declared.state.State.TheVariants.{Blank, Comment}
 use Rattle.qs_lexer.specs.Forms.{begins, has_end}
-use Rattle.qs_lexer.specs.Scan.{run, shape_before}
+use Rattle.qs_lexer.specs.steps.Scan.{run, shape_before}
 use Rattle.qs_lexer.proofs.Runs.{last_through, run-append, where_so_parts}
 
 -- what follows in a comment, behind its last star where that may end it

@@ -8,7 +8,7 @@ use Rattle.qs_lexer.specs.declared.shape.Shape.{Shape}
 use Rattle.qs_lexer.specs.declared.shape.Shape.TheVariants.{Gap, OpenComment, OpenText, Word, Physical, Whole, Decimal, Time, Text, Sign}
 use Rattle.qs_lexer.specs.declared.state.State.TheVariants as state
 use Rattle.qs_lexer.specs.Forms.{EndsLine, Form, IsGap, IsWord, is_in_line}
-use Rattle.qs_lexer.specs.Scan.{run, shape_before}
+use Rattle.qs_lexer.specs.steps.Scan.{run, shape_before}
 use Rattle.qs_lexer.proofs.Runs.{line_stays, physical_stays, stayed, word_stays}
 use Rattle.qs_lexer.proofs.Signs.{complete_sign}
 use Rattle.qs_lexer.proofs.FirstCharacters.{word_starts}

@@ -8,7 +8,7 @@ use Rattle.qs_lexer.specs.declared.token.Token.{Token}
 use Rattle.qs_lexer.specs.Forms.{is_in_line}
 use Rattle.qs_lexer.specs.Cut.{AreTokens, Gives, IsCut, Piece, first_behind, first_behind_all, place_behind_all}
 use Rattle.qs_lexer.specs.Lexed.{text_of}
-use Rattle.qs_lexer.specs.Scan.{first_of}
+use Rattle.qs_lexer.specs.steps.Scan.{first_of}
 use Rattle.qs_lexer.proofs.PlaceLemmas.{place_behind_append}
 
 pub cut_more : (ps qs : List Piece) (first : Bool) (text middle rest : List ℕ) → IsCut first text ps middle → IsCut (first_behind_all first ps) middle qs rest → IsCut first text (ps ++ qs) rest

@@ -9,7 +9,7 @@ use Rattle.qs_lexer.specs.declared.state.State.TheVariants.{Start}
 use Rattle.qs_lexer.specs.declared.token.Token.{Token}
 use Rattle.qs_lexer.specs.Cut.{BeginsNothing, Gives, IsLongest, IsToken, place_behind_all}
 use Rattle.qs_lexer.specs.Lexed.{IsClear, IsFaultAt, IsPieceFault, Stands, most_tokens}
-use Rattle.qs_lexer.specs.Scan.{longest_from}
+use Rattle.qs_lexer.specs.steps.Scan.{longest_from}
 use Rattle.qs_lexer.specs.Values.{IsLexeme, IsTooWide}
 use Rattle.qs_lexer.proofs.FaultLemmas.{kind_excludes_wide}
 use Rattle.qs_lexer.proofs.LongestLemmas.{found_or_none, longest_is, none_begins}

@@ -7,7 +7,7 @@ use Rattle.qs_values.specs.Names.{begins_word}
 use Rattle.qs_values.proofs.AsciiWords.{begins_word-ascii}
 use Rattle.qs_lexer.specs.declared.state.State.TheVariants.{Word}
 use Rattle.qs_lexer.specs.Forms.{is_blank}
-use Rattle.qs_lexer.specs.Scan.{at_start, is_one_sign}
+use Rattle.qs_lexer.specs.steps.Scan.{at_start, is_one_sign}
 
 -- the characters that begin a piece other than a word
 abbrev begins_other : ℕ → Bool

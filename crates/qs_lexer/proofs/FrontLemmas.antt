@@ -7,7 +7,7 @@ use Rattle.qs_lexer.specs.declared.shape.Shape.{Shape}
 use Rattle.qs_lexer.specs.declared.token.Token.{Token}
 use Rattle.qs_lexer.specs.Cut.{AreTokens, IsCut, IsLongest, Piece, first_behind, first_behind_all, place_behind_all, start}
 use Rattle.qs_lexer.specs.Lexed.{longest_source, most_tokens, text_of}
-use Rattle.qs_lexer.specs.Scan.{Adds, Begins, first_of}
+use Rattle.qs_lexer.specs.steps.Scan.{Adds, Begins, first_of}
 use Rattle.qs_lexer.proofs.CutLemmas.{cut_more, first_behind_more, first_of_is, place_more, tokens_more}
 use Rattle.qs_lexer.proofs.PlaceLemmas.{col_near_all, line_grows, line_near_all}
 

@@ -3,6 +3,10 @@ pub mod NumberStates
 pub mod NumberSound
 pub mod NumberComplete
 pub mod Runs
+pub mod MantissaReads
+pub mod AsciiRuns
+pub mod Singles
+pub mod AsciiPieces
 pub mod Signs
 pub mod FirstCharacters
 pub mod Comments

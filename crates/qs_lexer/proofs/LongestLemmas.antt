@@ -5,7 +5,7 @@ use Rattle.qs_lexer.specs.declared.shape.Shape.{Shape}
 use Rattle.qs_lexer.specs.declared.state.State.{State}
 use Rattle.qs_lexer.specs.declared.state.State.TheVariants.{Start}
 use Rattle.qs_lexer.specs.Forms.{Form}
-use Rattle.qs_lexer.specs.Scan.{Found, found_at, later, longest_from, run, shape_before, step}
+use Rattle.qs_lexer.specs.steps.Scan.{Found, found_at, later, longest_from, run, shape_before, step}
 use Rattle.qs_lexer.specs.Cut.{BeginsNothing, IsLongest}
 use Rattle.qs_lexer.proofs.Sound.{sound}
 use Rattle.qs_lexer.proofs.Complete.{complete}

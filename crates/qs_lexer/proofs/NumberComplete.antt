@@ -10,7 +10,7 @@ use Rattle.qs_lexer.specs.declared.state.State.TheVariants.{Start, Zero, Digits,
 use Rattle.qs_lexer.specs.declared.token.Unit.{Unit as TimeUnit}
 use Rattle.qs_lexer.specs.declared.token.Unit.TheVariants.{Dt, Ns, Us, Ms, S}
 use Rattle.qs_lexer.specs.Forms.{AreDigits, IsDecimal, IsExponent, IsPointed, IsTime, IsUnit, IsWhole, MayBeDigits, goes_on}
-use Rattle.qs_lexer.specs.Scan.{is_digit_of, run, shape_before, step}
+use Rattle.qs_lexer.specs.steps.Scan.{is_digit_of, run, shape_before, step}
 use Rattle.qs_lexer.proofs.DigitLemmas.{decimal-cases, goes_on-cases}
 use Rattle.qs_lexer.proofs.Runs.{run-append}
 use Rattle.qs_lexer.proofs.NumberStates.{IsExponentLetter, IsLetterOf, IsMantissa, IsNumber}

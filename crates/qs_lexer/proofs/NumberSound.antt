@@ -14,7 +14,7 @@ use Rattle.qs_lexer.specs.declared.state.State.TheVariants.{Nothing, Zero, Digit
 use Rattle.qs_lexer.specs.declared.token.Unit.{Unit as TimeUnit}
 use Rattle.qs_lexer.specs.declared.token.Unit.TheVariants.{Us}
 use Rattle.qs_lexer.specs.Forms.{AreDigits, Form, IsDecimal, IsPointed, IsUnit, IsWhole, goes_on}
-use Rattle.qs_lexer.specs.Scan.{at_based, at_digit, at_digits, at_exponent, at_half, at_number, at_part, at_start, at_zero, is_digit_of, last_letter, shape_before, step, unit_begun}
+use Rattle.qs_lexer.specs.steps.Scan.{at_based, at_digit, at_digits, at_exponent, at_half, at_number, at_part, at_start, at_zero, is_digit_of, last_letter, shape_before, step, unit_begun}
 use Rattle.qs_lexer.proofs.DigitLemmas.{AreSoFar, decimal-cases, digit-follows, one-digit}
 use Rattle.qs_lexer.proofs.NumberStates.{BeginsExponent, IsLetterOf, IsMantissa, IsNumber, ReachedNumber}
 

@@ -6,7 +6,7 @@ use Rattle.qs_lexer.specs.declared.state.Base.TheVariants.{Hexadecimal, Binary, 
 use Rattle.qs_lexer.specs.declared.state.State.{State}
 use Rattle.qs_lexer.specs.declared.state.State.TheVariants.{Nothing, Zero, Digits, Based, Point, Pointed, Part, Letter, Signed, Exponent, Half, Ended}
 use Rattle.qs_lexer.specs.Forms.{AreDigits, IsPointed, IsDecimal, IsUnit, IsTime}
-use Rattle.qs_lexer.specs.Scan.{is_digit_of, last_letter}
+use Rattle.qs_lexer.specs.steps.Scan.{is_digit_of, last_letter}
 use Rattle.qs_lexer.proofs.DigitLemmas.{AreSoFar}
 
 -- the letter of a base in either form

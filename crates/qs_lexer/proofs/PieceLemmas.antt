@@ -7,17 +7,17 @@ use Rattle.std.proofs.lemmas.Str.{IsCharBoundary-at_seam, chars-append}
 use Rattle.qs_lexer.specs.declared.shape.Shape.{Shape}
 use Rattle.qs_lexer.specs.declared.state.State.TheVariants.{Start}
 use Rattle.qs_lexer.specs.Cut.{IsLongest}
-use Rattle.qs_lexer.specs.Scan.{Begins, IsBehind, longest_from}
+use Rattle.qs_lexer.specs.steps.Scan.{Begins, IsBehind, longest_from}
 use Rattle.qs_lexer.proofs.LongestLemmas.{longest_is}
 
-front_length : (text front after : List ℕ) → text ≡ front ++ after → length text - length after ≡ length front
+pub front_length : (text front after : List ℕ) → text ≡ front ++ after → length text - length after ≡ length front
 front_length text front after whole = omega (arith, ap length whole, length-append front after)
 
 pub cut_requires : (text after : List ℕ) → IsBehind text after → IsCharBoundary text (length text - length after)
 cut_requires text after behind =
     rw (front_length text behind.0 after behind.3) (IsCharBoundary-at_seam text behind.0 after behind.3 behind.2)
 
-begins_front : (first : Bool) (text after : List ℕ) (shape : Shape) (behind : IsBehind text after) → longest_from (Start first) (chars text) ≡ Some (shape, chars after) → Begins first text shape behind.0 after
+pub begins_front : (first : Bool) (text after : List ℕ) (shape : Shape) (behind : IsBehind text after) → longest_from (Start first) (chars text) ≡ Some (shape, chars after) → Begins first text shape behind.0 after
 begins_front first text after shape behind found =
     let piece = longest_is first (chars text) shape (chars after) found in
     let same : piece.0 ≡ chars behind.0 = append_cancel_right piece.0 (chars behind.0) (chars after) (sym piece.1.whole ∙ ap chars behind.3 ∙ chars-append behind.0 after behind.1) in

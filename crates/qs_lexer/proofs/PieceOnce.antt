@@ -11,7 +11,7 @@ use Rattle.qs_lexer.specs.declared.token.TokenKind.{TokenKind}
 use Rattle.qs_lexer.specs.declared.token.TokenKind.TheVariants as kind
 use Rattle.qs_lexer.specs.Forms.{Form}
 use Rattle.qs_lexer.specs.Cut.{IsLongest}
-use Rattle.qs_lexer.specs.Scan.{run, shape_before}
+use Rattle.qs_lexer.specs.steps.Scan.{run, shape_before}
 use Rattle.qs_values.proofs.FracOnce.{frac_once}
 use Rattle.qs_lexer.specs.Values.{KindIs, scaled}
 use Rattle.qs_lexer.proofs.Complete.{complete}

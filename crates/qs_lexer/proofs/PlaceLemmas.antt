@@ -1,5 +1,7 @@
 -- The place behind several characters.
-use Rattle.std.proofs.Common.{◌≡◌, ℕ, ◌+◌, ◌≤◌, List, [], ◌∷◌, ◌++◌, not, nat_lt, length, refl, arith}
+use Rattle.std.proofs.Common.{◌≡◌, ℕ, ◌+◌, ◌≤◌, List, [], ◌∷◌, ◌++◌, Bool, true, false, ◌&&◌, not, if◌then◌else◌, nat_eq, nat_lt, length, refl, sym, ap, ◌∙◌, arith}
+use Rattle.std.specs.Str.{IsAscii, chars}
+use Rattle.std.proofs.lemmas.Str.{chars-IsAscii}
 use Rattle.std.specs.List.{list_all}
 use Rattle.std.proofs.lemmas.Bool.Decides.{nat_tests}
 use Rattle.qs_values.specs.declared.span.Span.{Span}
@@ -39,3 +41,31 @@ line_grows s (c ∷ cs) =
     let h = line_kept (place_behind s c) cs in
     let r = line_grows (place_behind s c) cs in
     grind (arith, nat_tests)
+
+-- ---- characters of one line
+
+same_column : (s : Span) (n : ℕ) → n ≡ s.col → s ≡ record { line = s.line; col = n }
+same_column s n e = λ i. record { line = s.line; col = sym e i }
+
+one_column : (s : Span) (c : ℕ) → is_in_line c ≡ true → place_behind s c ≡ record { line = s.line; col = s.col + 1 }
+one_column s c inside = by (nat_eq c 10) inside
+  where
+    by : (b : Bool) → not b ≡ true → ◌≡◌ {A = Span} (if b then record { line = s.line + 1; col = 1 } else record { line = s.line; col = s.col + 1 }) (record { line = s.line; col = s.col + 1 })
+    by true h = absurd (cc)
+    by false h = refl
+
+-- characters of one line, each of which takes a column
+pub in_line_place : (s : Span) (t : List ℕ) → list_all is_in_line t ≡ true → place_behind_all s t ≡ record { line = s.line; col = s.col + length t }
+in_line_place s [] inside = same_column s (s.col + 0) (omega arith)
+in_line_place s (c ∷ cs) inside =
+    let parts = and_parts (is_in_line c) (list_all is_in_line cs) inside in
+    let moved : Span = record { line = s.line; col = s.col + 1 } in
+    ap (λ n. place_behind_all n cs) (one_column s c parts.0) ∙ in_line_place moved cs parts.1 ∙ ap (λ (n : ℕ). let e : Span = record { line = s.line; col = n } in e) (let e : s.col + 1 + length cs ≡ s.col + length (c ∷ cs) = omega arith in e)
+  where
+    and_parts : (a b : Bool) → (a && b) ≡ true → (a ≡ true) × (b ≡ true)
+    and_parts true b e = (refl, e)
+    and_parts false b e = absurd (cc)
+
+-- a text of ASCII on one line is as many columns long as it has bytes
+pub ascii_place : (s : Span) (text : List ℕ) → IsAscii text → list_all is_in_line text ≡ true → record { line = s.line; col = s.col + length text } ≡ place_behind_all s (chars text)
+ascii_place s text ascii inside = sym (ap (place_behind_all s) (chars-IsAscii text ascii) ∙ in_line_place s text inside)

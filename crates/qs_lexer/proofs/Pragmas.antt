@@ -9,7 +9,7 @@ use Rattle.qs_lexer.specs.declared.shape.Shape.TheVariants as shape
 use Rattle.qs_lexer.specs.declared.state.State.{State}
 use Rattle.qs_lexer.specs.declared.state.State.TheVariants.{Nothing, Line, Pragma, Word}
 use Rattle.qs_lexer.specs.Forms.{begins, is_in_line}
-use Rattle.qs_lexer.specs.Scan.{ends_line, letter_of_pragma, run, shape_before}
+use Rattle.qs_lexer.specs.steps.Scan.{ends_line, letter_of_pragma, run, shape_before}
 use Rattle.qs_lexer.proofs.Runs.{from_nothing, line_stays, stayed, stays_through, where_so_parts, word_stays}
 
 -- So many letters were read and these are left.

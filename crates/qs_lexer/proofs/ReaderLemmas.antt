@@ -8,7 +8,7 @@ use Rattle.std.proofs.lemmas.Str.{IsUtf8-append, IsUtf8-past_char, chars_past_ch
 use Rattle.qs_lexer.specs.declared.shape.Shape.{Shape}
 use Rattle.qs_lexer.specs.declared.state.State.{State}
 use Rattle.qs_lexer.specs.declared.state.State.TheVariants.{Nothing}
-use Rattle.qs_lexer.specs.Scan.{Found, IsBehind, found_at, later, longest_from, shape_before, step}
+use Rattle.qs_lexer.specs.steps.Scan.{Found, IsBehind, found_at, later, longest_from, shape_before, step}
 use Rattle.qs_lexer.proofs.TextLemmas.{chars_at_end, front_utf8}
 
 -- nothing is found where no piece begins

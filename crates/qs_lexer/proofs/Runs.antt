@@ -9,7 +9,7 @@ use Rattle.qs_lexer.specs.declared.shape.Shape.{Shape}
 use Rattle.qs_lexer.specs.declared.state.State.{State}
 use Rattle.qs_lexer.specs.declared.state.State.TheVariants.{Nothing, Line, Word, Physical}
 use Rattle.qs_lexer.specs.Forms.{is_in_line}
-use Rattle.qs_lexer.specs.Scan.{run, shape_before, step, where_so}
+use Rattle.qs_lexer.specs.steps.Scan.{run, shape_before, step, where_so}
 
 pub run-append : (s : State) (xs ys : List ℕ) → run s (xs ++ ys) ≡ run (run s xs) ys
 run-append s xs ys = fold-append step s xs ys

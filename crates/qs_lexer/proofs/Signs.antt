@@ -9,7 +9,7 @@ use Rattle.qs_lexer.specs.declared.shape.Shape.{Shape}
 use Rattle.qs_lexer.specs.declared.shape.Shape.TheVariants as shape
 use Rattle.qs_lexer.specs.declared.state.State.TheVariants.{Start}
 use Rattle.qs_lexer.specs.Forms.{IsSign, signs}
-use Rattle.qs_lexer.specs.Scan.{is_one_sign, is_two_signs, is_three_signs, takes_equals, run, shape_before}
+use Rattle.qs_lexer.specs.steps.Scan.{is_one_sign, is_two_signs, is_three_signs, takes_equals, run, shape_before}
 
 -- whether a text is a sign
 abbrev pub is_sign : List ℕ → Bool

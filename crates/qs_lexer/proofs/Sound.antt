@@ -10,7 +10,7 @@ use Rattle.qs_lexer.specs.declared.shape.Shape.TheVariants as shape
 use Rattle.qs_lexer.specs.declared.state.State.{State}
 use Rattle.qs_lexer.specs.declared.state.State.TheVariants.{Start, Nothing, Blank, Line, Slash, Comment, Pragma, Word, Dollar, Physical, Quote, One, Two, Three, Zero, Digits, Point}
 use Rattle.qs_lexer.specs.Forms.{EndsLine, Form, is_blank, is_in_line}
-use Rattle.qs_lexer.specs.Scan.{at_slash, at_start, ends_line, is_one_sign, is_two_signs, is_three_signs, run, shape_before, step}
+use Rattle.qs_lexer.specs.steps.Scan.{at_slash, at_start, ends_line, is_one_sign, is_two_signs, is_three_signs, run, shape_before, step}
 use Rattle.qs_lexer.proofs.Runs.{from_nothing, last_through, line_stays, physical_stays, stays_through, where_so_parts, word_stays}
 use Rattle.qs_lexer.proofs.Signs.{one_is_sign, three_are_sign, two_are_sign}
 use Rattle.qs_lexer.proofs.Comments.{GoesOn, from_comment}

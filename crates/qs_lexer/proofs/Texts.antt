@@ -8,7 +8,7 @@ use Rattle.qs_lexer.specs.declared.shape.Shape.TheVariants as shape
 use Rattle.qs_lexer.specs.declared.state.State.{State}
 use Rattle.qs_lexer.specs.declared.state.State.TheVariants.{Nothing, Quote, Text}
 use Rattle.qs_lexer.specs.Forms.{EndsLine, is_in_line, is_in_text}
-use Rattle.qs_lexer.specs.Scan.{ends_line, run, shape_before}
+use Rattle.qs_lexer.specs.steps.Scan.{ends_line, run, shape_before}
 use Rattle.qs_lexer.proofs.Runs.{from_nothing, last_through, run-append, where_so_parts}
 
 -- ---- the end of a line

@@ -33,16 +33,16 @@ abbrev pub IsCut : Bool → List ℕ → List Piece → List ℕ → Type 0
 IsCut first text [] rest = text ≡ rest
 IsCut first text (p ∷ ps) rest = (after : List ℕ) × IsLongest first text p.0 p.1 after × IsCut (first_behind first p.0 p.1) after ps rest
 
--- whether the next lexeme behind these pieces is the first of its line
+-- whether the next lexeme after these pieces is the first of its line
 abbrev pub first_behind_all : Bool → List Piece → Bool
 first_behind_all first [] = first
 first_behind_all first (p ∷ ps) = first_behind_all (first_behind first p.0 p.1) ps
 
--- the place behind a character that stands at a place
+-- the place after a character that stands at a place
 abbrev pub place_behind : Span → ℕ → Span
 place_behind s c = if nat_eq c 10 then record { line = s.line + 1; col = 1 } else record { line = s.line; col = s.col + 1 }
 
--- the place behind a text that begins at a place
+-- the place after a text that begins at a place
 abbrev pub place_behind_all : Span → List ℕ → Span
 place_behind_all s t = fold place_behind s t
 

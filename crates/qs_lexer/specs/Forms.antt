@@ -42,7 +42,7 @@ EndsLine after = begins is_in_line after ≡ false
 abbrev pub IsLineComment : List ℕ → List ℕ → Type 0
 IsLineComment t after = (line : List ℕ) × (t ≡ codes "//" ++ line) × IsTrue (list_all is_in_line line) × EndsLine after
 
--- `/*` to the first `*/` behind it
+-- `/*` to the first `*/` after it
 abbrev pub IsComment : List ℕ → Type 0
 IsComment t = (inner : List ℕ) × (t ≡ codes "/*" ++ inner ++ codes "*/") × (has_end inner ≡ false)
 
@@ -56,7 +56,7 @@ IsPragma first t after =
     IsTrue first × (word : List ℕ) × (line : List ℕ) × (t ≡ word ++ line) × ((word ≡ codes "pragma") ⊎ (word ≡ codes "#pragma"))
     × IsTrue (list_all is_in_line line) × (begins continues_word line ≡ false) × EndsLine after
 
--- a gap, behind which `after` stands: a blank, a comment, an annotation or a pragma
+-- a gap, after which `after` stands: a blank, a comment, an annotation or a pragma
 abbrev pub IsGap : Bool → List ℕ → List ℕ → Type 0
 IsGap first t after = IsBlank t ⊎ (IsLineComment t after ⊎ (IsComment t ⊎ (IsAnnotation first t after ⊎ IsPragma first t after)))
 
@@ -152,7 +152,7 @@ IsTime u t = (number : List ℕ) × (unit : List ℕ) × (t ≡ number ++ unit) 
 
 -- ---- all of them
 
--- A text, behind which `after` stands, is a gap, a lexeme, or a comment or text that is left open. `first` says whether the first lexeme of its line would begin there.
+-- A text, after which `after` stands, is a gap, a lexeme, or a comment or text that is left open. `first` says whether the first lexeme of its line would begin there.
 abbrev pub Form : Bool → Shape → List ℕ → List ℕ → Type 0
 Form first Gap t after = IsGap first t after
 Form first OpenComment t after = (inner : List ℕ) × (t ≡ codes "/*" ++ inner) × (has_end inner ≡ false) × (after ≡ [])

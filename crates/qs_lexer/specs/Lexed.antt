@@ -53,7 +53,7 @@ IsPieceFault count place shape piece (NumberTooWide span) = IsTooWide shape piec
 IsPieceFault count place shape piece (TooManyTokens span) = (count ≡ most_tokens) × IsLexeme shape × ¬ (IsTooWide shape piece) × (span ≡ place)
 IsPieceFault count place shape piece _ = ⊥
 
--- What stands behind a faultless front of a source is a fault: a byte that belongs to no character, a character that begins nothing, or a piece at fault. So many tokens are before it; `place` is where it begins.
+-- What stands after a faultless front of a source is a fault: a byte that belongs to no character, a character that begins nothing, or a piece at fault. So many tokens are before it; `place` is where it begins.
 abbrev pub IsFaultAt : Bool → List ℕ → List ℕ → ℕ → Span → LexRefusal → Type 0
 IsFaultAt first rest tail count place (NotUtf8 span) =
     ¬ (tail ≡ []) × (((rest ≡ []) × (span ≡ place)) ⊎ ((shape : Shape) × (piece : List ℕ) × IsLongest first rest shape piece [] × (span ≡ place_behind_all place piece)))
@@ -84,7 +84,7 @@ code_of (NumberTooWide span) = 105
 code_of (TooManyTokens span) = 106
 code_of Memory = 0
 
--- the place of a refusal; want of memory has none
+-- the place of a refusal; out of memory has none
 abbrev pub span_of : LexRefusal → Option Span
 span_of (NotUtf8 span) = Some span
 span_of (BadChar span) = Some span
@@ -94,7 +94,7 @@ span_of (NumberTooWide span) = Some span
 span_of (TooManyTokens span) = Some span
 span_of Memory = None
 
--- What `lex` answers: the tokens, or the first fault. Want of memory is free.
+-- What `lex` answers: the tokens, or the first fault. Out of memory is free.
 abbrev pub LexIs : List ℕ → Result (List Token) LexRefusal → Type 0
 LexIs bytes (Ok tokens) = Lexes bytes tokens
 LexIs bytes (Err Memory) = Unit {0}

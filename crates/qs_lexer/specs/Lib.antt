@@ -1,6 +1,6 @@
+pub mod steps
 pub mod Forms
 pub mod Values
 pub mod Cut
 pub mod Lexed
-pub mod Scan
 pub mod Once

@@ -50,7 +50,7 @@ behind_mantissa t = drop (prefix_len is_mantissa t) t
 abbrev pub is_no_point : ℕ → Bool
 is_no_point c = not (nat_eq c 46)
 
--- how many digits stand behind the point
+-- how many digits stand after the point
 abbrev pub places : List ℕ → ℕ
 places m = count_by is_ascii_digit (drop (prefix_len is_no_point m) m)
 

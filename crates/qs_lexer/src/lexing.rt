@@ -1,11 +1,11 @@
 ghost use Rattle.std.specs.Prelude.{◌≡◌, ◌⊎◌, ◌≤◌, ℕ, [], length, MatchResult};
 ghost use Rattle.std.specs.Bool.{MatchBool};
 ghost use Rattle.std.specs.Str.{chars};
-ghost use Rattle.qs_lexer.specs.declared.refusal.LexRefusal.TheVariants.{Memory as WantOfMemory};
+ghost use Rattle.qs_lexer.specs.declared.refusal.LexRefusal.TheVariants.{Memory as OutOfMemory};
 ghost use Rattle.qs_lexer.specs.Lexed.{IsClear, IsPieceFault, IsReadable, LexIs, longest_source, most_tokens};
-ghost use Rattle.qs_lexer.specs.Scan.{Adds, GivesKind, first_of};
+ghost use Rattle.qs_lexer.specs.steps.Scan.{Adds, GivesKind, first_of};
 
-use crate::place::{START, place_behind_all};
+use crate::place::{START, place_behind_piece};
 use crate::refusal::LexRefusal;
 use crate::scan::next_piece;
 use crate::shape::Shape;
@@ -59,7 +59,7 @@ fn put(
 ) -> Result<(), LexRefusal>
     requires short { length (chars piece.now) ≤ longest_source }
     requires few { length tokens.old ≤ most_tokens }
-    ensures { MatchResult result (λ _. Adds place shape (chars piece.now) tokens.old tokens.new) (λ refusal. (refusal ≡ WantOfMemory) ⊎ IsPieceFault (length tokens.old) place shape (chars piece.now) refusal) }
+    ensures { MatchResult result (λ _. Adds place shape (chars piece.now) tokens.old tokens.new) (λ refusal. (refusal ≡ OutOfMemory) ⊎ IsPieceFault (length tokens.old) place shape (chars piece.now) refusal) }
 {
     let kind = match kind_at(place, shape, piece) {
         Ok(Some(kind)) => kind,
@@ -85,7 +85,7 @@ fn runs_out(after: &str, tail: &[u8]) -> bool
     after.is_empty() && !tail.is_empty()
 }
 
-/// Whether the next lexeme is the first of its line, behind a piece that ends on a line below or not.
+/// Whether the next lexeme is the first of its line, after a piece that ends on a line below or not.
 fn first_of(first: bool, shape: Shape, is_below: bool) -> bool
     ensures { result ≡ first_of first shape is_below }
 {
@@ -101,7 +101,7 @@ fn first_of(first: bool, shape: Shape, is_below: bool) -> bool
 /// `NotUtf8` at the first byte that belongs to no character, `BadChar` at a character that begins
 /// no gap and no lexeme, `OpenComment` and `OpenText` where one begins that has no end,
 /// `NumberTooWide` at a number past its limit, `TooManyTokens` at token 262,145, whichever comes
-/// first in the text; `Memory` for want of memory.
+/// first in the text; `Memory` where memory is out.
 pub fn lex(alloc: Global, bytes: &[u8]) -> Result<List<Token>, LexRefusal>
     requires { length bytes.now ≤ longest_source }
     ensures { LexIs bytes.now result }
@@ -115,7 +115,7 @@ pub fn lex(alloc: Global, bytes: &[u8]) -> Result<List<Token>, LexRefusal>
         let Some(piece) = next_piece(first, rest) else {
             return Err(LexRefusal::BadChar { span: place });
         };
-        let end = place_behind_all(place, piece.text);
+        let end = place_behind_piece(place, piece.text, piece.in_line);
         if runs_out(piece.after, tail) {
             return Err(LexRefusal::NotUtf8 { span: end });
         }

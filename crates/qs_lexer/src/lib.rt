@@ -2,8 +2,7 @@
 //! its place (OpenQASM 3.0, lexical structure, in this project's profile).
 #![tactic(auto)]
 
-#[cfg(test)]
-mod cutting;
+mod ascii;
 mod laws;
 mod lexing;
 mod place;

@@ -18,14 +18,14 @@ pub enum LexRefusal {
     NumberTooWide { span: Span },
     /// One token more than a source may have.
     TooManyTokens { span: Span },
-    /// Want of memory.
+    /// Out of memory.
     Memory,
 }
 
 impl LexRefusal {
     ghost use Rattle.qs_lexer.specs.Lexed.{code_of, span_of};
 
-    /// The refusal's number, from 101 to 106, and 0 for want of memory.
+    /// The refusal's number, from 101 to 106, and 0 where memory is out.
     pub fn code(&self) -> u16
         ensures { result ≡ code_of self.now }
     {
@@ -40,7 +40,7 @@ impl LexRefusal {
         }
     }
 
-    /// Where the fault is; want of memory has no place.
+    /// Where the fault is; `Memory` has no place.
     pub fn span(&self) -> Option<Span>
         ensures { result ≡ span_of self.now }
     {
@@ -57,9 +57,9 @@ impl LexRefusal {
 }
 
 impl From<AllocError> for LexRefusal {
-    ghost use Rattle.qs_lexer.specs.declared.refusal.LexRefusal.TheVariants.{Memory as WantOfMemory};
+    ghost use Rattle.qs_lexer.specs.declared.refusal.LexRefusal.TheVariants.{Memory as OutOfMemory};
 
-    ghost from_gives = { λ _ refusal. refusal ≡ WantOfMemory };
+    ghost from_gives = { λ _ refusal. refusal ≡ OutOfMemory };
 
     fn from(_: AllocError) -> LexRefusal {
         LexRefusal::Memory

@@ -1,7 +1,7 @@
 ghost use Rattle.std.specs.Prelude.{◌≡◌, [], ◌∷◌};
 ghost use Rattle.std.specs.Char.{is_ascii_digit, is_ascii_hexdigit};
 ghost use Rattle.qs_lexer.specs.Forms.{is_blank};
-ghost use Rattle.qs_lexer.specs.Scan.{is_digit_of, unit_begun, is_one_sign, is_two_signs, is_three_signs, ends_line, where_so, shape_before, at_start, at_slash, at_comment, at_pragma, at_number, at_digits, at_zero, at_based, at_part, at_exponent, at_digit, at_half, at_quote, at_numeral, step};
+ghost use Rattle.qs_lexer.specs.steps.Scan.{is_digit_of, unit_begun, is_one_sign, is_two_signs, is_three_signs, ends_line, where_so, shape_before, at_start, at_slash, at_comment, at_pragma, at_number, at_digits, at_zero, at_based, at_part, at_exponent, at_digit, at_half, at_quote, at_numeral, step};
 
 use crate::shape::Shape;
 use crate::token::Unit;
@@ -31,7 +31,7 @@ pub enum State {
     Slash,
     /// A comment, and whether its last character is a `*` that may end it.
     Comment(bool),
-    /// So many letters of `pragma`, behind `#` or not, as the first lexeme of a line.
+    /// So many letters of `pragma`, after `#` or not, as the first lexeme of a line.
     Pragma(bool, u8),
     /// A word.
     Word,
@@ -57,7 +57,7 @@ pub enum State {
     Point,
     /// Digits and a point.
     Pointed,
-    /// Digits behind a point.
+    /// Digits after a point.
     Part(bool),
     /// A number and the letter of an exponent.
     Letter,
@@ -75,13 +75,15 @@ pub enum State {
 const PRAGMA: [char; 6] = ['p', 'r', 'a', 'g', 'm', 'a'];
 
 /// Whether a character is a blank, a tab, a line feed or a carriage return.
-fn is_blank(c: char) -> bool
+#[inline(always)]
+pub fn is_blank(c: char) -> bool
     ensures { result ≡ is_blank c }
 {
     c == ' ' || c == '\t' || c == '\n' || c == '\r'
 }
 
 /// Whether a character is a digit of a base.
+#[inline(always)]
 fn is_digit_of(base: Base, c: char) -> bool
     ensures { result ≡ is_digit_of base c }
 {
@@ -92,6 +94,7 @@ fn is_digit_of(base: Base, c: char) -> bool
     }
 }
 
+#[inline(always)]
 fn is_one_sign(a: char) -> bool
     ensures { result ≡ is_one_sign a }
 {
@@ -122,6 +125,7 @@ fn is_one_sign(a: char) -> bool
     )
 }
 
+#[inline(always)]
 fn is_two_signs(a: char, b: char) -> bool
     ensures { result ≡ is_two_signs a b }
 {
@@ -136,6 +140,7 @@ fn is_two_signs(a: char, b: char) -> bool
     }
 }
 
+#[inline(always)]
 fn is_three_signs(a: char, b: char, c: char) -> bool
     ensures { result ≡ is_three_signs a b c }
 {
@@ -143,6 +148,7 @@ fn is_three_signs(a: char, b: char, c: char) -> bool
 }
 
 /// Whether a line or the text ends before the character that comes next.
+#[inline(always)]
 fn ends_line(next: Option<char>) -> bool
     ensures { result ≡ ends_line next }
 {
@@ -153,6 +159,7 @@ fn ends_line(next: Option<char>) -> bool
 }
 
 /// The shape, where a piece may have it.
+#[inline(always)]
 fn where_so(is_so: bool, shape: Shape) -> Option<Shape>
     ensures { result ≡ where_so is_so shape }
 {
@@ -161,6 +168,7 @@ fn where_so(is_so: bool, shape: Shape) -> Option<Shape>
 
 /// What a piece is that ends in this state, before this character or the end of the text, where one
 /// may end there.
+#[inline(always)]
 pub fn shape_before(state: State, next: Option<char>) -> Option<Shape>
     ensures { result ≡ shape_before state next }
 {
@@ -184,6 +192,7 @@ pub fn shape_before(state: State, next: Option<char>) -> Option<Shape>
 }
 
 /// The unit of two letters that a first letter begins.
+#[inline(always)]
 fn unit_begun(c: char) -> State
     ensures { result ≡ unit_begun c }
 {
@@ -198,6 +207,7 @@ fn unit_begun(c: char) -> State
 }
 
 /// The first character of a piece.
+#[inline(always)]
 fn at_start(first: bool, c: char) -> State
     ensures { result ≡ at_start first c }
 {
@@ -221,6 +231,7 @@ fn at_start(first: bool, c: char) -> State
 }
 
 /// What follows `/`.
+#[inline(always)]
 fn at_slash(c: char) -> State
     ensures { result ≡ at_slash c }
 {
@@ -233,6 +244,7 @@ fn at_slash(c: char) -> State
 }
 
 /// What follows in a comment.
+#[inline(always)]
 fn at_comment(star: bool, c: char) -> State
     ensures { result ≡ at_comment star c }
 {
@@ -244,6 +256,7 @@ fn at_comment(star: bool, c: char) -> State
 }
 
 /// What follows so many letters of `pragma`.
+#[inline(always)]
 fn at_pragma(hash: bool, letters: u8, c: char) -> State
     ensures { result ≡ at_pragma hash letters c }
 {
@@ -259,6 +272,7 @@ fn at_pragma(hash: bool, letters: u8, c: char) -> State
 }
 
 /// What follows decimal digits that may end there.
+#[inline(always)]
 fn at_number(c: char) -> State
     ensures { result ≡ at_number c }
 {
@@ -270,6 +284,7 @@ fn at_number(c: char) -> State
 }
 
 /// What follows decimal digits.
+#[inline(always)]
 fn at_digits(ended: bool, c: char) -> State
     ensures { result ≡ at_digits ended c }
 {
@@ -287,6 +302,7 @@ fn at_digits(ended: bool, c: char) -> State
 }
 
 /// What follows `0`.
+#[inline(always)]
 fn at_zero(c: char) -> State
     ensures { result ≡ at_zero c }
 {
@@ -299,6 +315,7 @@ fn at_zero(c: char) -> State
 }
 
 /// What follows `0`, the letter of a base, and digits.
+#[inline(always)]
 fn at_based(base: Base, ended: bool, c: char) -> State
     ensures { result ≡ at_based base ended c }
 {
@@ -311,7 +328,8 @@ fn at_based(base: Base, ended: bool, c: char) -> State
     }
 }
 
-/// What follows a point that stands behind digits, and digits behind it.
+/// What follows a point that stands after digits, and digits after it.
+#[inline(always)]
 fn at_part(ended: bool, c: char) -> State
     ensures { result ≡ at_part ended c }
 {
@@ -327,6 +345,7 @@ fn at_part(ended: bool, c: char) -> State
 }
 
 /// What follows a number with its exponent.
+#[inline(always)]
 fn at_exponent(ended: bool, c: char) -> State
     ensures { result ≡ at_exponent ended c }
 {
@@ -342,6 +361,7 @@ fn at_exponent(ended: bool, c: char) -> State
 }
 
 /// This state where a character is a decimal digit.
+#[inline(always)]
 fn at_digit(next: State, c: char) -> State
     ensures { result ≡ at_digit next c }
 {
@@ -353,6 +373,7 @@ fn at_digit(next: State, c: char) -> State
 }
 
 /// The second letter of a unit.
+#[inline(always)]
 fn at_half(unit: Unit, c: char) -> State
     ensures { result ≡ at_half unit c }
 {
@@ -364,6 +385,7 @@ fn at_half(unit: Unit, c: char) -> State
 }
 
 /// What follows in a text.
+#[inline(always)]
 fn at_quote(c: char) -> State
     ensures { result ≡ at_quote c }
 {
@@ -375,6 +397,7 @@ fn at_quote(c: char) -> State
 }
 
 /// What follows in a number.
+#[inline(always)]
 fn at_numeral(state: State, c: char) -> State
     ensures { result ≡ at_numeral state c }
 {
@@ -395,6 +418,7 @@ fn at_numeral(state: State, c: char) -> State
 }
 
 /// What a piece is with one more character.
+#[inline(always)]
 pub fn step(state: State, c: char) -> State
     ensures { result ≡ step state c }
 {

@@ -1,9 +1,11 @@
-ghost use Rattle.std.specs.Prelude.{◌≡◌, ◌<◌, ◌≤◌, ◌*◌, ◌/◌, ◌^◌, pos, drop, length, min, count_by, MatchOption};
+ghost use Rattle.std.specs.Prelude.{◌≡◌, ◌+◌, ◌<◌, ◌≤◌, ◌*◌, ◌/◌, ◌^◌, pos, drop, length, min, count_by, nat_eq, MatchOption};
 ghost use Rattle.std.specs.Str.{chars};
 ghost use Rattle.qs_values.specs.Lowest.{IsWide};
 ghost use Rattle.std.specs.Char.{is_ascii_digit, is_digit};
 ghost use Rattle.qs_lexer.specs.Lexed.{longest_source};
-ghost use Rattle.qs_lexer.specs.Values.{IsCutOf, IsLexeme, IsTooWide, KindIs, with_digit, value_of, based_value, whole_value, is_mantissa, mantissa, places, exponent, has_minus, scaled};
+ghost use Rattle.qs_lexer.specs.Values.{IsCutOf, IsLexeme, IsTooWide, KindIs, with_digit, value_of, based_value, whole_value, is_mantissa, mantissa, behind_mantissa, places, scaled};
+ghost use Rattle.qs_lexer.specs.Forms.{begins};
+ghost use Rattle.qs_lexer.specs.steps.Mantissas.{places_with};
 
 use crate::shape::Shape;
 use crate::token::TokenKind;
@@ -12,22 +14,37 @@ use qs_values::Frac;
 /// What a number times 10^17 stays below, where it may be within its limit.
 const CAP: u128 = 1_000_000_000_000_000_000_000_000_000_000_000_000;
 
-/// What an exponent is cut to: it is above the number of a source's characters.
-const LONGEST: u128 = 2_000_000;
+/// What an exponent is cut to, which is more than a source has characters.
+const EXPONENT_CAP: u128 = 2_000_000;
 
-/// What a whole number stays below.
-const LIMIT: u128 = 18_446_744_073_709_551_616;
+/// 2^64, which a whole number stays below.
+const WHOLE_BOUND: u128 = 18_446_744_073_709_551_616;
+
+/// 2^56, below which a number with one more digit fits one machine word.
+const SHORT: u128 = 72_057_594_037_927_936;
 
 /// 10^17, of which a cut number is a whole multiple of a part.
 const SCALE: i128 = 100_000_000_000_000_000;
 
+/// A number of one machine word with one more digit.
+#[inline(always)]
+fn word_with_digit(base: u32, n: u64, digit: u32) -> u64
+    requires base { base ≤ 36 }
+    requires n { n < 2 ^ 56 }
+    ensures { result ≡ n * base + digit }
+{
+    n * base as u64 + digit as u64
+}
+
 /// A number with one more digit, cut to `most`; other characters add none.
+#[inline(always)]
 fn with_digit(most: u128, base: u32, n: u128, c: char) -> u128
     requires least { 2 ≤ base }
     requires most { base ≤ 36 }
     ensures { result ≡ min (with_digit base n c) most }
 {
     match c.to_digit(base) {
+        Some(digit) if n < SHORT => (word_with_digit(base, n as u64, digit) as u128).min(most),
         Some(digit) => n
             .saturating_mul(base as u128)
             .saturating_add(digit as u128)
@@ -36,27 +53,28 @@ fn with_digit(most: u128, base: u32, n: u128, c: char) -> u128
     }
 }
 
-/// The digits of a text as a decimal number, cut to `LIMIT`.
+/// The digits of a text as a decimal number, cut to `WHOLE_BOUND`.
 fn decimal_value(text: &str) -> u128
-    ensures { result ≡ min (value_of 10 (chars text.now)) LIMIT }
+    ensures { result ≡ min (value_of 10 (chars text.now)) WHOLE_BOUND }
 {
-    text.chars().fold(0, |n, c| with_digit(LIMIT, 10, n, c))
+    text.chars()
+        .fold(0, |n, c| with_digit(WHOLE_BOUND, 10, n, c))
 }
 
-/// The digits behind two characters as a number of a base, cut to `LIMIT`.
+/// The digits after two characters as a number of a base, cut to `WHOLE_BOUND`.
 fn behind_two(base: u32, text: &str) -> u128
     requires least { 2 ≤ base }
     requires most { base ≤ 36 }
-    ensures { result ≡ min (value_of base (drop 2 (chars text.now))) LIMIT }
+    ensures { result ≡ min (value_of base (drop 2 (chars text.now))) WHOLE_BOUND }
 {
     text.chars()
         .skip(2)
-        .fold(0, |n, c| with_digit(LIMIT, base, n, c))
+        .fold(0, |n, c| with_digit(WHOLE_BOUND, base, n, c))
 }
 
-/// The value of a whole number with this second character, cut to `LIMIT`.
+/// The value of a whole number with this second character, cut to `WHOLE_BOUND`.
 fn based_value(text: &str, letter: char) -> u128
-    ensures { result ≡ min (based_value (chars text.now) letter (drop 2 (chars text.now))) LIMIT }
+    ensures { result ≡ min (based_value (chars text.now) letter (drop 2 (chars text.now))) WHOLE_BOUND }
 {
     match letter {
         'x' | 'X' => behind_two(16, text),
@@ -66,9 +84,9 @@ fn based_value(text: &str, letter: char) -> u128
     }
 }
 
-/// The value of a whole number, cut to `LIMIT`.
+/// The value of a whole number, cut to `WHOLE_BOUND`.
 fn whole_value(text: &str) -> u128
-    ensures { result ≡ min (whole_value (chars text.now)) LIMIT }
+    ensures { result ≡ min (whole_value (chars text.now)) WHOLE_BOUND }
 {
     match text.chars().nth(1) {
         Some(letter) => based_value(text, letter),
@@ -83,15 +101,6 @@ fn is_mantissa(c: char) -> bool
     c.is_ascii_digit() || c == '_' || c == '.'
 }
 
-/// The digits of a mantissa as a number, cut to `CAP`.
-fn mantissa_value(text: &str) -> u128
-    ensures { result ≡ min (value_of 10 (mantissa (chars text.now))) CAP }
-{
-    text.chars()
-        .take_while(|c| is_mantissa(*c))
-        .fold(0, |n, c| with_digit(CAP, 10, n, c))
-}
-
 /// How many digits a mantissa has.
 fn digits(text: &str) -> usize
     ensures { result ≡ count_by (λ c. is_digit c 10) (mantissa (chars text.now)) }
@@ -102,31 +111,57 @@ fn digits(text: &str) -> usize
         .count()
 }
 
-/// How many digits of a mantissa stand behind the point.
-fn places(text: &str) -> usize
-    ensures { result ≡ places (mantissa (chars text.now)) }
+/// How many digits stand after the point, with one more character of a mantissa.
+#[inline(always)]
+fn places_with(pointed: bool, places: usize, c: char) -> usize
+    requires { places + 1 < 2 ^ 64 }
+    ensures { result ≡ places_with pointed places c }
 {
-    text.chars()
-        .take_while(|c| is_mantissa(*c))
-        .skip_while(|c| *c != '.')
-        .filter(|c| c.is_ascii_digit())
-        .count()
+    if pointed && c.is_ascii_digit() {
+        places + 1
+    } else {
+        places
+    }
 }
 
-/// The size of the exponent, cut to `LONGEST`.
-fn exponent(text: &str) -> u128
-    ensures { result ≡ min (exponent (chars text.now)) LONGEST }
+/// A mantissa: its digits as a number, cut to `CAP`, how many of them stand after the point, and
+/// what follows it.
+fn read_mantissa(text: &str) -> (u128, usize, &str)
+    ensures value { result.0 ≡ min (value_of 10 (mantissa (chars text.now))) CAP }
+    ensures places { result.1 ≡ places (mantissa (chars text.now)) }
+    ensures rest { chars result.2.now ≡ behind_mantissa (chars text.now) }
 {
-    text.chars()
-        .skip_while(|c| is_mantissa(*c))
-        .fold(0, |n, c| with_digit(LONGEST, 10, n, c))
+    let _count = text.len();
+    let mut value = 0;
+    let mut places = 0;
+    let mut pointed = false;
+    let mut ahead = text.chars();
+    let mut rest = text;
+    while let Some(c) = ahead.next() {
+        if !is_mantissa(c) {
+            return (value, places, rest);
+        }
+        value = with_digit(CAP, 10, value, c);
+        places = places_with(pointed, places, c);
+        pointed = pointed | (c == '.');
+        rest = ahead.as_str();
+    }
+    (value, places, rest)
 }
 
-/// Whether a minus stands before the exponent.
-fn has_minus(text: &str) -> bool
-    ensures { result ≡ has_minus (chars text.now) }
+/// The size of the exponent in what follows a mantissa, cut to `EXPONENT_CAP`.
+fn exponent(rest: &str) -> u128
+    ensures { result ≡ min (value_of 10 (chars rest.now)) EXPONENT_CAP }
 {
-    text.chars().skip_while(|c| is_mantissa(*c)).nth(1) == Some('-')
+    rest.chars()
+        .fold(0, |n, c| with_digit(EXPONENT_CAP, 10, n, c))
+}
+
+/// Whether a minus stands before the exponent in what follows a mantissa.
+fn has_minus(rest: &str) -> bool
+    ensures { result ≡ begins (nat_eq 45) (drop 1 (chars rest.now)) }
+{
+    rest.chars().nth(1) == Some('-')
 }
 
 /// The mantissa's digits but the last ones as a number, cut to `CAP`.
@@ -148,14 +183,16 @@ fn times_power(n: u128, up: u128) -> u128
     n.saturating_mul(10u128.pow(up.min(36) as u32)).min(CAP)
 }
 
-/// The mantissa times one power of 10, over another, cut to a whole number and to `CAP`.
-fn shifted(text: &str, up: u128, down: u128) -> u128
+/// The mantissa, whose value cut to `CAP` this is, times one power of 10, over another, cut to a
+/// whole number and to `CAP`.
+fn shifted(text: &str, value: u128, up: u128, down: u128) -> u128
+    requires { value ≡ min (value_of 10 (mantissa (chars text.now))) CAP }
     ensures { result ≡ min ((value_of 10 (mantissa (chars text.now)) * 10 ^ up) / (10 ^ down)) CAP }
 {
     if up < down {
         without_last(text, down - up)
     } else {
-        times_power(mantissa_value(text), up - down)
+        times_power(value, up - down)
     }
 }
 
@@ -164,12 +201,13 @@ fn scaled(text: &str) -> u128
     requires { length (chars text.now) ≤ longest_source }
     ensures { result ≡ min (scaled (chars text.now)) CAP }
 {
-    let places = places(text) as u128;
-    let exponent = exponent(text);
-    if has_minus(text) {
-        shifted(text, 17, places + exponent)
+    let (value, places, rest) = read_mantissa(text);
+    let places = places as u128;
+    let exponent = exponent(rest);
+    if has_minus(rest) {
+        shifted(text, value, 17, places + exponent)
     } else {
-        shifted(text, 17 + exponent, places)
+        shifted(text, value, 17 + exponent, places)
     }
 }
 

@@ -1,152 +1,128 @@
--- The tokens of each kind of expression, and those of the worked examples.
-use Rattle.std.proofs.Common.{◌≡◌, ℕ, List, [], ◌∷◌, ◌++◌, Bool, true, false, map, option_map, codes, Option, Some, None, sym, ap, ◌∙◌, refl}
+-- The pieces of the worked examples, and small rows of the words and signs.
+use Rattle.std.proofs.Common.{◌≡◌, [], ◌∷◌, true, false, map, codes, Some, None, refl}
 use Rattle.qs_values.specs.declared.number.Frac.{Frac}
-use Rattle.qs_values.specs.declared.number.Num.{Num}
-use Rattle.qs_lexer.specs.declared.token.TokenKind.TheVariants as kind
-use Rattle.qs_lexer.specs.declared.token.Unit.{Unit as TimeUnit}
-use Rattle.qs_lexer.specs.declared.token.Unit.TheVariants.{Ns}
-use Rattle.qs_tree.specs.declared.operator.UnOp.{UnOp}
 use Rattle.qs_tree.specs.declared.operator.UnOp.TheVariants.{Not, Neg, Invert}
-use Rattle.qs_tree.specs.declared.operator.BinOp.{BinOp}
 use Rattle.qs_tree.specs.declared.operator.BinOp.TheVariants.{Power, Mul, Div, Rem, Add, Sub, ShiftLeft, ShiftRight, Less, LessEqual, Greater, GreaterEqual, Equal, NotEqual, BitAnd, BitXor, BitOr, And, Or}
-use Rattle.qs_tree.specs.declared.expr.TypeWord.{TypeWord}
 use Rattle.qs_tree.specs.declared.expr.TypeWord.TheVariants.{Bit, Int, Uint, Angle, Bool as BoolWord, Duration}
-use Rattle.qs_tree.specs.declared.expr.Expr.{Expr}
-use Rattle.qs_tree.specs.declared.expr.TypeExpr.{TypeExpr}
-use Rattle.qs_tree.specs.declared.expr.ExprKind.TheOpen as layer
-use Rattle.qs_tree.specs.declared.expr.ExprKind.TheVariants.{Whole, Decimal, Time, Text, Truth, Name, Index, Physical, Call, Cast, Group, Unary, Binary, Number, rolls-Whole, rolls-Decimal, rolls-Time, rolls-Text, rolls-Truth, rolls-Name, rolls-Index, rolls-Physical, rolls-Call, rolls-Cast, rolls-Group, rolls-Unary, rolls-Binary, rolls-Number}
-use Rattle.qs_tree.specs.declared.expr.ExprKind.TheFolds.{fold-Expr, fold-TypeExpr, fold-roll-ExprKind, fold-roll-TypeExpr, fold_out-Expr}
-use Rattle.qs_tree.specs.Spelling.{Seen, Word, Sign, Quoted, Qubit, Integer, Fraction, Period, enclosed, expr_step, kind_step, seen_by, sign_of_bin, sign_of_un, sign_alone, spell, spell_kind, truth_word, type_step, width_tokens, with_commas, word_of_type}
-use Rattle.qs_tree.specs.Example.{a, calls, calls_tokens, casts, casts_tokens, placed, power, power_tokens, typed}
-
--- ---- one layer
-
-spelled : (e : Expr) → fold-Expr (List Seen) (List Seen) (List Seen) kind_step expr_step type_step e ≡ spell e
-spelled = fold_out-Expr (List Seen) (List Seen) (List Seen) kind_step expr_step type_step
-
-all_spelled : (es : List Expr) → map (fold-Expr (List Seen) (List Seen) (List Seen) kind_step expr_step type_step) es ≡ map spell es
-all_spelled [] = refl
-all_spelled (e ∷ es) = rw (spelled e, all_spelled es) refl
-
--- the tokens of a type
-abbrev type_tokens : TypeExpr → List Seen
-type_tokens = fold-TypeExpr (List Seen) (List Seen) (List Seen) kind_step expr_step type_step
-
-spell-Whole : (value : ℕ) → spell_kind (Whole value) ≡ Integer value ∷ []
-spell-Whole value =
-    ap spell_kind (sym (rolls-Whole value)) ∙ fold-roll-ExprKind (List Seen) (List Seen) (List Seen) kind_step expr_step type_step (layer.Whole value)
-
-spell-Decimal : (value : Frac) → spell_kind (Decimal value) ≡ Fraction value ∷ []
-spell-Decimal value =
-    ap spell_kind (sym (rolls-Decimal value)) ∙ fold-roll-ExprKind (List Seen) (List Seen) (List Seen) kind_step expr_step type_step (layer.Decimal value)
-
-spell-Time : (value : Frac) (unit : TimeUnit) → spell_kind (Time value unit) ≡ Period value unit ∷ []
-spell-Time value unit =
-    ap spell_kind (sym (rolls-Time value unit)) ∙ fold-roll-ExprKind (List Seen) (List Seen) (List Seen) kind_step expr_step type_step (layer.Time value unit)
-
-spell-Text : (text : List ℕ) → spell_kind (Text text) ≡ Quoted text ∷ []
-spell-Text text =
-    ap spell_kind (sym (rolls-Text text)) ∙ fold-roll-ExprKind (List Seen) (List Seen) (List Seen) kind_step expr_step type_step (layer.Text text)
-
-spell-Truth : (value : Bool) → spell_kind (Truth value) ≡ Word (truth_word value) ∷ []
-spell-Truth value =
-    ap spell_kind (sym (rolls-Truth value)) ∙ fold-roll-ExprKind (List Seen) (List Seen) (List Seen) kind_step expr_step type_step (layer.Truth value)
-
-spell-Name : (name : List ℕ) → spell_kind (Name name) ≡ Word name ∷ []
-spell-Name name =
-    ap spell_kind (sym (rolls-Name name)) ∙ fold-roll-ExprKind (List Seen) (List Seen) (List Seen) kind_step expr_step type_step (layer.Name name)
-
-spell-Index : (name : List ℕ) (index : Expr) → spell_kind (Index name index) ≡ Word name ∷ enclosed (codes "[") (spell index) (codes "]")
-spell-Index name index =
-    ap spell_kind (sym (rolls-Index name index)) ∙ fold-roll-ExprKind (List Seen) (List Seen) (List Seen) kind_step expr_step type_step (layer.Index name index) ∙ rw (spelled index) refl
-
-spell-Physical : (number : ℕ) → spell_kind (Physical number) ≡ Qubit number ∷ []
-spell-Physical number =
-    ap spell_kind (sym (rolls-Physical number)) ∙ fold-roll-ExprKind (List Seen) (List Seen) (List Seen) kind_step expr_step type_step (layer.Physical number)
-
-spell-Call : (name : List ℕ) (args : List Expr) → spell_kind (Call name args) ≡ Word name ∷ enclosed (codes "(") (with_commas (map spell args)) (codes ")")
-spell-Call name args =
-    ap spell_kind (sym (rolls-Call name args)) ∙ fold-roll-ExprKind (List Seen) (List Seen) (List Seen) kind_step expr_step type_step (layer.Call name args) ∙ rw (all_spelled args) refl
-
-spell-Cast : (type : TypeExpr) (operand : Expr) → spell_kind (Cast type operand) ≡ type_tokens type ++ enclosed (codes "(") (spell operand) (codes ")")
-spell-Cast type operand =
-    ap spell_kind (sym (rolls-Cast type operand)) ∙ fold-roll-ExprKind (List Seen) (List Seen) (List Seen) kind_step expr_step type_step (layer.Cast type operand) ∙ rw (spelled operand) refl
-
-spell-Group : (inner : Expr) → spell_kind (Group inner) ≡ enclosed (codes "(") (spell inner) (codes ")")
-spell-Group inner =
-    ap spell_kind (sym (rolls-Group inner)) ∙ fold-roll-ExprKind (List Seen) (List Seen) (List Seen) kind_step expr_step type_step (layer.Group inner) ∙ rw (spelled inner) refl
-
-spell-Unary : (op : UnOp) (operand : Expr) → spell_kind (Unary op operand) ≡ sign_alone (sign_of_un op) ++ spell operand
-spell-Unary op operand =
-    ap spell_kind (sym (rolls-Unary op operand)) ∙ fold-roll-ExprKind (List Seen) (List Seen) (List Seen) kind_step expr_step type_step (layer.Unary op operand) ∙ rw (spelled operand) refl
-
-spell-Binary : (left : Expr) (op : BinOp) (right : Expr) → spell_kind (Binary left op right) ≡ spell left ++ sign_alone (sign_of_bin op) ++ spell right
-spell-Binary left op right =
-    ap spell_kind (sym (rolls-Binary left op right)) ∙ fold-roll-ExprKind (List Seen) (List Seen) (List Seen) kind_step expr_step type_step (layer.Binary left op right) ∙ rw (spelled left, spelled right) refl
-
-spell-Number : (value : Num) → spell_kind (Number value) ≡ []
-spell-Number value =
-    ap spell_kind (sym (rolls-Number value)) ∙ fold-roll-ExprKind (List Seen) (List Seen) (List Seen) kind_step expr_step type_step (layer.Number value)
+use Rattle.qs_tree.specs.declared.expr.ExprKind.TheVariants.{Whole, Decimal, Text, Truth, Index, Physical, Call, Cast, Group, Unary, Binary}
+use Rattle.qs_tree.specs.declared.gate.Call.{roll-Call}
+use Rattle.qs_tree.specs.declared.operand.Place.{roll-Place}
+use Rattle.qs_tree.specs.declared.operand.Operand.TheVariants.{Named, PhysicalQubit}
+use Rattle.qs_tree.specs.declared.statement.StmtKind.TheVariants.{GateCall, Reset}
+use Rattle.qs_tree.specs.declared.statement.Body.TheVariants.{One, Braces}
+use Rattle.qs_tree.specs.Spelling.{spell, spell_stmt, sign_of_bin, sign_of_un, truth_word, word_of_type}
+use Rattle.qs_tree.specs.examples.Spellings.{a, calls, calls_pieces, casts, casts_pieces, choice, choice_pieces, column, ident, placed, power, power_pieces, stated, typed}
+use Rattle.qs_tree.proofs.Spelled.{spell-Expr, spell-Stmt, spell-Place, spell-TypeExpr, spell-Called, spell-Whole, spell-Decimal, spell-Text, spell-Truth, spell-Name, spell-Index, spell-Physical, spell-Call, spell-Cast, spell-Group, spell-Unary, spell-Binary, spell-Named, spell-PhysicalQubit, spell-GateCall, spell-Reset, spell-If, spell-One, spell-Braces}
 
 -- ---- the worked examples
 
-power-fits : spell (placed power) ≡ power_tokens
+power-fits : spell power ≡ power_pieces
 power-fits =
-    let difference = placed (Binary (placed a) Sub (placed (Whole 1))) in
-    let base = placed (Group difference) in
+    let one = placed 7 (Whole 1) in
+    let two = placed 13 (Whole 2) in
+    let difference = placed 3 (Binary (placed 3 a) Sub one) in
+    let base = placed 2 (Group difference) in
+    let square = placed 2 (Binary base Power two) in
     rw (
-      spell-Unary Neg (placed (Binary base Power (placed (Whole 2)))),
-      spell-Binary base Power (placed (Whole 2)),
+      spell-Expr power,
+      spell-Unary Neg square,
+      spell-Expr square,
+      spell-Binary base Power two,
+      spell-Expr base,
       spell-Group difference,
-      spell-Binary (placed a) Sub (placed (Whole 1)),
+      spell-Expr difference,
+      spell-Binary (placed 3 a) Sub one,
+      spell-Expr (placed 3 a),
       spell-Name (codes "a"),
+      spell-Expr one,
       spell-Whole 1,
+      spell-Expr two,
       spell-Whole 2,
     )
     refl
 
-calls-fit : spell (placed calls) ≡ calls_tokens
+calls-fit : spell calls ≡ calls_pieces
 calls-fit =
-    let three = placed (Whole 3) in
-    let indexed = Index (codes "a") three in
-    let args = placed indexed ∷ placed (Truth true) ∷ placed (Physical 7) ∷ [] in
+    let three = placed 5 (Whole 3) in
+    let indexed = placed 3 (Index (codes "a") three) in
+    let args = indexed ∷ placed 9 (Truth true) ∷ placed 15 (Physical 7) ∷ [] in
+    let f = placed 1 (Call (codes "f") args) in
+    let g = placed 21 (Call (codes "g") []) in
     rw (
-      spell-Binary (placed (Call (codes "f") args)) Div (placed (Call (codes "g") [])),
+      spell-Expr calls,
+      spell-Binary f Div g,
+      spell-Expr f,
       spell-Call (codes "f") args,
+      spell-Expr g,
       spell-Call (codes "g") [],
+      spell-Expr indexed,
       spell-Index (codes "a") three,
+      spell-Expr three,
       spell-Whole 3,
+      spell-Expr (placed 9 (Truth true)),
       spell-Truth true,
+      spell-Expr (placed 15 (Physical 7)),
       spell-Physical 7,
     )
     refl
 
-type-tokens : (word : TypeWord) (width : Option Expr) → type_tokens (typed word width) ≡ Word (word_of_type word) ∷ width_tokens (option_map spell width)
-type-tokens word None = fold-roll-TypeExpr (List Seen) (List Seen) (List Seen) kind_step expr_step type_step (record { span = record { line = 1; col = 1 }; word = word; width = None })
-type-tokens word (Some b) =
-    fold-roll-TypeExpr (List Seen) (List Seen) (List Seen) kind_step expr_step type_step (record { span = record { line = 1; col = 1 }; word = word; width = Some b }) ∙ rw (spelled b) refl
-
-casts-fit : (f : Frac) → spell (placed (casts f)) ≡ casts_tokens f
+casts-fit : (f : Frac) → spell (casts f) ≡ casts_pieces f
 casts-fit f =
-    let four = placed (Whole 4) in
-    let text = placed (Text (codes "\"01\"")) in
-    let decimal = placed (Decimal f) in
-    let whole = placed (Cast (typed Int (Some four)) text) in
-    let test = placed (Cast (typed BoolWord None) decimal) in
+    let four = placed 6 (Whole 4) in
+    let text = placed 9 (Text (codes "\"01\"")) in
+    let decimal = placed 22 (Decimal f) in
+    let whole = placed 2 (Cast (typed 2 Int (Some four)) text) in
+    let negated = placed 1 (Unary Not whole) in
+    let test = placed 17 (Cast (typed 17 BoolWord None) decimal) in
     rw (
-      spell-Binary (placed (Unary Not whole)) Less test,
+      spell-Expr (casts f),
+      spell-Binary negated Less test,
+      spell-Expr negated,
       spell-Unary Not whole,
-      spell-Cast (typed Int (Some four)) text,
-      spell-Cast (typed BoolWord None) decimal,
-      type-tokens Int (Some four),
-      type-tokens BoolWord None,
+      spell-Expr whole,
+      spell-Cast (typed 2 Int (Some four)) text,
+      spell-TypeExpr (column 2) Int (Some four),
+      spell-Expr test,
+      spell-Cast (typed 17 BoolWord None) decimal,
+      spell-TypeExpr (column 17) BoolWord None,
+      spell-Expr four,
       spell-Whole 4,
+      spell-Expr text,
       spell-Text (codes "\"01\""),
+      spell-Expr decimal,
       spell-Decimal f,
     )
     refl
 
--- ---- the signs, the words and the values of tokens
+choice-fits : spell_stmt choice ≡ choice_pieces
+choice-fits =
+    let qubit = PhysicalQubit (column 10) 0 in
+    let one = placed 29 (Whole 1) in
+    let element = roll-Place (record { name = ident 27 (codes "q"); index = Some one }) in
+    let called = roll-Call (record { modifiers = []; name = ident 8 (codes "x"); args = None; operands = qubit ∷ [] }) in
+    let first = stated 8 (GateCall called) in
+    let second = stated 21 (Reset (Named element)) in
+    rw (
+      spell-Stmt choice,
+      spell-If (placed 5 a) (One first) (Some (Braces (second ∷ []))),
+      spell-Expr (placed 5 a),
+      spell-Name (codes "a"),
+      spell-One first,
+      spell-Stmt first,
+      spell-GateCall called,
+      spell-Called [] (ident 8 (codes "x")) None (qubit ∷ []),
+      spell-PhysicalQubit (column 10) 0,
+      spell-Braces (second ∷ []),
+      spell-Stmt second,
+      spell-Reset (Named element),
+      spell-Named element,
+      spell-Place (ident 27 (codes "q")) (Some one),
+      spell-Expr one,
+      spell-Whole 1,
+    )
+    refl
+
+-- ---- the signs and the words
 
 -- the signs from the tightest to the loosest, one by one
 binary-signs :
@@ -165,9 +141,3 @@ type-words :
     map word_of_type (Bit ∷ Int ∷ Uint ∷ Angle ∷ BoolWord ∷ Duration ∷ [])
     ≡ codes "bit" ∷ codes "int" ∷ codes "uint" ∷ codes "angle" ∷ codes "bool" ∷ codes "duration" ∷ []
 type-words = refl
-
--- what is seen of each kind of token with this text
-tokens-seen : (text : List ℕ) (f : Frac) →
-    map (λ k. seen_by k text) (kind.Word ∷ kind.Physical 1 ∷ kind.Whole 2 ∷ kind.Decimal f ∷ kind.Time f Ns ∷ kind.Text ∷ kind.Sign ∷ [])
-    ≡ Word text ∷ Qubit 1 ∷ Integer 2 ∷ Fraction f ∷ Period f Ns ∷ Quoted text ∷ Sign text ∷ []
-tokens-seen text f = refl

@@ -1,2 +1,5 @@
+pub mod Spelled
 pub mod ExampleLemmas
 pub mod TextRows
+pub mod DigitLemmas
+pub mod TableLemmas

@@ -1,5 +1,8 @@
 pub mod Spelling
-pub mod Example
+pub mod WellFormed
 pub mod Truths
 pub mod Constants
 pub mod Texts
+pub mod examples
+pub mod Keys
+pub mod Reading

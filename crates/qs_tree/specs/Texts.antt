@@ -1,7 +1,11 @@
 -- The digits of a text (OpenQASM 3.0, bit string literals).
-use Rattle.std.specs.Prelude.{ℕ, ◌-◌, List, false, ◌&&◌, if◌then◌else◌, nat_le, drop, take, length, Option, Some, None}
-use Rattle.std.specs.List.{filter}
+use Rattle.std.specs.Prelude.{ℕ, ◌-◌, List, Bool, false, ◌&&◌, if◌then◌else◌, nat_le, drop, take, length, Option, Some, None}
+use Rattle.std.specs.List.{filter, list_all}
 use Rattle.qs_lexer.specs.Forms.{goes_on, is_binary_digit}
+
+-- whether a list is from 1 to 64 digits `0` and `1`
+abbrev pub is_bits : List ℕ → Bool
+is_bits digits = list_all is_binary_digit digits && (nat_le 1 (length digits) && nat_le (length digits) 64)
 
 -- what stands between the quotes
 abbrev pub inner_text : List ℕ → List ℕ

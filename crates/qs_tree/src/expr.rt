@@ -1,4 +1,5 @@
 use crate::operator::{BinOp, UnOp};
+use crate::statement::Stmt;
 use qs_lexer::Unit;
 use qs_values::{Boxed, Frac, List, Name, Num, Span};
 
@@ -10,8 +11,8 @@ pub struct Expr {
     pub kind: ExprKind,
 }
 
-/// What an expression is: one kind for each form of the grammar (OpenQASM 3.0, expressions) but
-/// `durationof`, which holds statements, with its parts in their order.
+/// What an expression is: one kind for each form of the grammar (OpenQASM 3.0, expressions), with its
+/// parts in their order.
 #[cycle(syntax)]
 #[derive(Debug, Drop)]
 pub enum ExprKind {
@@ -35,6 +36,8 @@ pub enum ExprKind {
     Call(Name, List<Expr>),
     /// A cast.
     Cast(TypeExpr, Boxed<Expr>),
+    /// `durationof({ statements })`: how long these statements take.
+    DurationOf(List<Stmt>),
     /// An expression in brackets.
     Group(Boxed<Expr>),
     /// An operator and its operand.

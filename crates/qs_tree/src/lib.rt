@@ -1,13 +1,29 @@
-//! The trees of a source: expressions as OpenQASM 3.0 writes them, and the constants that they may
-//! name.
+//! The trees of a source: statements and expressions as OpenQASM 3.0 writes them, and the constants
+//! that expressions may name.
 #![tactic(auto)]
 
+mod assign;
 mod constant;
 mod expr;
+mod gate;
+mod name;
+mod operand;
 mod operator;
+mod pulse;
+mod reading;
+mod source;
+mod statement;
 mod text;
 
-pub use constant::{Const, ConstVal, Consts};
+pub use assign::AssignOp;
+pub use constant::{Const, ConstTable, ConstVal, Consts, Digits};
 pub use expr::{Expr, ExprKind, TypeExpr, TypeWord};
+pub use gate::{Call, Modifier};
+pub use name::Ident;
+pub use operand::{Operand, Place, Value};
 pub use operator::{BinOp, UnOp};
+pub use pulse::{CalName, Item, Param};
+pub use reading::{Variables, expr_reads};
+pub use source::Source;
+pub use statement::{Body, Range, Stmt, StmtKind};
 pub use text::bits_of;

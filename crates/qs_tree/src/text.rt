@@ -1,7 +1,9 @@
 ghost use Rattle.std.specs.Prelude.{◌≡◌, IfOk, false, string_bytes};
+ghost use Rattle.std.specs.Option.{option_map};
 ghost use Rattle.qs_lexer.specs.Forms.{goes_on, is_binary_digit};
 ghost use Rattle.qs_tree.specs.Texts.{bits_of, digits_alone, inner_text};
 
+use crate::constant::Digits;
 use qs_values::Name;
 use std::alloc::{AllocError, Global};
 
@@ -58,9 +60,9 @@ fn digits_alone(alloc: Global, text: &[u8]) -> Result<String, AllocError>
 }
 
 /// The digits of a text in quotes, or `None` where it isn't of 1 to 64 digits `0` and `1` with
-/// single `_` between them; an error where memory is wanting.
-pub fn bits_of(alloc: Global, text: &str) -> Result<Option<Name>, AllocError>
-    ensures { IfOk result (λ bits. bits ≡ bits_of text.now) }
+/// single `_` between them; an error where memory runs out.
+pub fn bits_of(alloc: Global, text: &str) -> Result<Option<Digits>, AllocError>
+    ensures { IfOk result (λ bits. option_map (λ digits. digits.text) bits ≡ bits_of text.now) }
 {
     let inner = inner_text(text.as_bytes());
     if !is_of_digits(inner) {
@@ -70,5 +72,6 @@ pub fn bits_of(alloc: Global, text: &str) -> Result<Option<Name>, AllocError>
     if digits.len() > MOST_DIGITS {
         return Ok(None);
     }
-    Ok(Some(Name::from_string(digits)))
+    let text = Name::from_string(digits);
+    Ok(Some(Digits { text }))
 }

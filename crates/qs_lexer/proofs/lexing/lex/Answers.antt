@@ -19,28 +19,28 @@ loop-rest-init c =
 pub returns-in_default : goal.returns-in_default
 returns-in_default c =
     fails c.readable.ensures c.loop-rest.invariant (BadChar c.loop-rest.place)
-    (λ e. some_if _ c.loop-rest-test.ensures (empty_from_chars _ c.loop-rest.invariant.utf8 e), c.in_default.ensures, refl)
+    (λ e. some_if _ c.loop-rest-test.ensures (empty_from_chars _ c.loop-rest.invariant.utf8 e), c.in_default.ensures.piece, refl)
 
 pub put-requires-clause-short : goal.put-requires-clause-short
-put-requires-clause-short c = omega (arith, length_of_rest c.in-Some.ensures)
+put-requires-clause-short c = omega (arith, length_of_rest c.in-Some.ensures.piece)
 
 pub returns-then-runs_out : goal.returns-then-runs_out
 returns-then-runs_out c =
     let piece = c.in-Some.piece in
-    let longest = subst (IsLongest c.loop-rest.first (chars c.loop-rest.rest.now) piece.shape (chars piece.text.now)) c.if-runs_out.ensures.0 c.in-Some.ensures.longest in
-    fails c.readable.ensures c.loop-rest.invariant (NotUtf8 c.place_behind_all-end.result)
-    (c.if-runs_out.ensures.1, inr (piece.shape, chars piece.text.now, longest, c.place_behind_all-end.ensures))
+    let longest = subst (IsLongest c.loop-rest.first (chars c.loop-rest.rest.now) piece.shape (chars piece.text.now)) c.if-runs_out.ensures.0 c.in-Some.ensures.piece.longest in
+    fails c.readable.ensures c.loop-rest.invariant (NotUtf8 c.place_behind_piece-end.result)
+    (c.if-runs_out.ensures.1, inr (piece.shape, chars piece.text.now, longest, c.place_behind_piece-end.ensures))
 
 pub returns-in-Err : goal.returns-in-Err
 returns-in-Err c =
     let piece = c.in-Some.piece in
     piece_fails c.readable.ensures c.loop-rest.invariant c.in-Err.refusal piece.shape (chars piece.text.now)
-    (chars piece.after.now, c.in-Some.ensures.longest, c.if-runs_out.ensures) c.in-Err.ensures
+    (chars piece.after.now, c.in-Some.ensures.piece.longest, c.if-runs_out.ensures) c.in-Err.ensures
 
 pub loop-rest-preserved : goal.loop-rest-preserved
 loop-rest-preserved c =
     rw c.first_of-first.ensures
-    (front_more _ _ _ _ _ _ _ _ _ _ c.loop-rest.invariant c.in-Some.ensures c.place_behind_all-end.ensures c.in_default-put.ensures)
+    (front_more _ _ _ _ _ _ _ _ _ _ c.loop-rest.invariant c.in-Some.ensures.piece c.place_behind_piece-end.ensures c.in_default-put.ensures)
 
 pub returns-then-is_empty : goal.returns-then-is_empty
 returns-then-is_empty c = all_cut c.readable.ensures c.loop-rest.invariant (empty_if _ c.loop-rest-test.ensures) (empty_if _ c.if-is_empty.ensures)

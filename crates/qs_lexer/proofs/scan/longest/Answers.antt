@@ -3,7 +3,7 @@ use Rattle.std.specs.Str.{chars}
 use Rattle.std.proofs.lemmas.Str.{IsUtf8-nil}
 use Rattle.std.specs.Str.Iter.{chars_rest}
 use Rattle.qs_lexer.specs.declared.state.State.TheVariants.{Start}
-use Rattle.qs_lexer.specs.Scan.{longest_from, shape_before}
+use Rattle.qs_lexer.specs.steps.Scan.{longest_from, shape_before}
 use Rattle.qs_lexer.proofs.ReaderLemmas.{read_next, read_more, read_no_more, length_of_ahead, nothing_before, still_behind, next_of_ahead}
 use Rattle.qs_lexer.proofs.scan.longest.Goals as goal
 

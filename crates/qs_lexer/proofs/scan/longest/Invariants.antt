@@ -2,7 +2,7 @@ use Rattle.std.proofs.Common.{◌≡◌, IfSome, option_map, length}
 use Rattle.std.specs.Str.{chars}
 use Rattle.std.specs.Str.Iter.{chars_rest}
 use Rattle.qs_lexer.specs.declared.state.State.TheVariants.{Start}
-use Rattle.qs_lexer.specs.Scan.{IsBehind, longest_from, later}
+use Rattle.qs_lexer.specs.steps.Scan.{IsBehind, longest_from, later}
 use Rattle.qs_lexer.proofs.ReaderLemmas.{ahead_of}
 use Rattle.qs_lexer.proofs.scan.longest.Given as goal
 

@@ -1,15 +1,19 @@
-use Rattle.std.proofs.Common.{sym}
-use Rattle.qs_lexer.proofs.LongestLemmas.{none_begins}
-use Rattle.qs_lexer.proofs.PieceLemmas.{cut_requires, piece_begins}
+use Rattle.std.proofs.Common.{subst}
+use Rattle.qs_lexer.specs.steps.Runs.{IsAsciiPiece}
+use Rattle.qs_lexer.proofs.AsciiPieces.{ascii_begins, ascii_boundary, ascii_in_line}
 use Rattle.qs_lexer.proofs.scan.next_piece.Goals as goal
 
-pub returns-in_err-shape : goal.returns-in_err-shape
-returns-in_err-shape c =
-    let none = rw c.in_err-shape.was at c.longest.ensures.value in
-    rw c.from_residual.ensures (none_begins _ _ (sym none))
-
 pub split_at-requires : goal.split_at-requires
-split_at-requires c = cut_requires _ _ c.in_ok-shape.ensures.behind
+split_at-requires c =
+    let piece = c.in-Some in
+    let is = subst (λ t. IsAsciiPiece c.args.first t piece.shape piece.count piece.in_line) c.as_bytes.ensures.value c.in-Some.ensures in
+    ascii_boundary c.args.first c.args.text.now piece.shape piece.count piece.in_line c.utf8.text is
 
 pub returns : goal.returns
-returns c = piece_begins _ _ _ _ _ c.in_ok-shape.ensures.behind (sym c.in_ok-shape.ensures.value) c.split_at.ensures.front
+returns c =
+    let piece = c.in-Some in
+    let is = subst (λ t. IsAsciiPiece c.args.first t piece.shape piece.count piece.in_line) c.as_bytes.ensures.value c.in-Some.ensures in
+    record {
+      piece = ascii_begins c.args.first c.args.text.now piece.shape piece.count piece.in_line c.utf8.text is c.split_at.result.0.now c.split_at.result.1.now c.split_at.ensures.front c.split_at.ensures.back;
+      in_line = ascii_in_line c.args.first c.args.text.now piece.shape piece.count piece.in_line c.utf8.text is c.split_at.result.0.now c.split_at.ensures.front;
+    }

@@ -1,5 +1,6 @@
-use Rattle.std.proofs.Common.{◌≡◌, ◌∙◌, ◌+◌, ◌*◌, ◌/◌, ◌^◌, ◌≤◌, length, ap, sym, true, false, arith}
-use Rattle.std.specs.Prelude.{min, if◌then◌else◌}
+use Rattle.std.proofs.Common.{◌≡◌, ◌∙◌, ◌+◌, ◌*◌, ◌/◌, ◌^◌, ◌≤◌, length, drop, ap, sym, true, false, arith}
+use Rattle.std.specs.Prelude.{min, nat_eq, if◌then◌else◌}
+use Rattle.qs_lexer.specs.Forms.{begins}
 use Rattle.std.specs.Str.{chars}
 use Rattle.qs_lexer.specs.Values.{exponent, has_minus, mantissa, places, value_of}
 use Rattle.qs_lexer.proofs.LeadingDigits.{digits_of, value_below}
@@ -12,8 +13,10 @@ returns-then-has_minus c =
     let text = chars c.args.text.now in
     let m = value_of 10 (mantissa text) in
     let p = places (mantissa text) in
-    let minus : true ≡ has_minus text = sym c.if-has_minus.true ∙ c.has_minus.ensures in
-    let down : c.places-places.result + c.exponent-exponent.result ≡ p + min (exponent text) 2_000_000 = omega (arith, c.places-places.ensures, c.exponent-exponent.ensures) in
+    let front = c.read_mantissa-value.ensures in
+    let minus : true ≡ has_minus text = sym c.if-has_minus.true ∙ c.has_minus.ensures ∙ ap (λ t. begins (nat_eq 45) (drop 1 t)) front.rest in
+    let size : c.exponent-exponent.result ≡ min (exponent text) 2_000_000 = c.exponent-exponent.ensures ∙ ap (λ t. min (value_of 10 t) 2_000_000) front.rest in
+    let down : c.read_mantissa-value.result.1 + c.exponent-exponent.result ≡ p + min (exponent text) 2_000_000 = omega (arith, front.places, size) in
     let far : length (digits_of (mantissa text)) + 17 ≤ 2_000_000 = omega (arith, few_digits text, c.requires) in
     c.shifted.ensures
     ∙ ap (λ k. min (m * 10 ^ 17 / 10 ^ k) (10 ^ 36)) down
@@ -24,10 +27,12 @@ returns-else-has_minus c =
     let text = chars c.args.text.now in
     let m = value_of 10 (mantissa text) in
     let p = places (mantissa text) in
-    let minus : false ≡ has_minus text = sym c.if-has_minus.false ∙ c.has_minus.ensures in
+    let front = c.read_mantissa-value.ensures in
+    let minus : false ≡ has_minus text = sym c.if-has_minus.false ∙ c.has_minus.ensures ∙ ap (λ t. begins (nat_eq 45) (drop 1 t)) front.rest in
+    let size : c.exponent-exponent.result ≡ min (exponent text) 2_000_000 = c.exponent-exponent.ensures ∙ ap (λ t. min (value_of 10 t) 2_000_000) front.rest in
     let far : p + 36 ≤ 2_000_000 = omega (arith, few_places text, c.requires) in
     c.shifted-else-has_minus.ensures
-    ∙ ap (λ k. min (m * 10 ^ (17 + k) / 10 ^ c.places-places.result) (10 ^ 36)) c.exponent-exponent.ensures
-    ∙ ap (λ k. min (m * 10 ^ (17 + min (exponent text) 2_000_000) / 10 ^ k) (10 ^ 36)) c.places-places.ensures
+    ∙ ap (λ k. min (m * 10 ^ (17 + k) / 10 ^ c.read_mantissa-value.result.1) (10 ^ 36)) size
+    ∙ ap (λ k. min (m * 10 ^ (17 + min (exponent text) 2_000_000) / 10 ^ k) (10 ^ 36)) front.places
     ∙ cut_plus m p (exponent text) 2_000_000 far
     ∙ ap (λ b. min (if b then (m * 10 ^ 17) / (10 ^ (p + exponent text)) else (m * 10 ^ (17 + exponent text)) / (10 ^ p)) (10 ^ 36)) minus

@@ -11,4 +11,4 @@ returns-then-up-down c = c.without_last.ensures ∙ ap (λ n. min n (10 ^ 36)) (
 pub returns-else-up-down : goal.returns-else-up-down
 returns-else-up-down c =
     let m = value_of 10 (mantissa (chars c.args.text.now)) in
-    c.times_power.ensures ∙ product_cut m c.mantissa_value.result (c.args.up - c.args.down) c.mantissa_value.ensures ∙ ap (λ n. min n (10 ^ 36)) (sym (over_lower m c.args.up c.args.down c.if-up-down.false))
+    c.times_power.ensures ∙ product_cut m c.args.value (c.args.up - c.args.down) c.requires ∙ ap (λ n. min n (10 ^ 36)) (sym (over_lower m c.args.up c.args.down c.if-up-down.false))

@@ -1,0 +1,3 @@
+pub mod Mantissas
+pub mod Runs
+pub mod Scan

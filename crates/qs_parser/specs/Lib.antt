@@ -1,0 +1,5 @@
+pub mod Refusals
+pub mod Language
+pub mod Once
+pub mod Reading
+pub mod steps
