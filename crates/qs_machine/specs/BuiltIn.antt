@@ -36,9 +36,9 @@ waveforms = flat (codes "w4") 4 ∷ flat (codes "w8") 8 ∷ flat (codes "r20") 2
 abbrev pub family_of : List ℕ → List ℕ → Family
 family_of name numbers = record { name = name; frames = numbers }
 
--- for each qubit the frame on its drive port, and the one on its acquire port
+-- for each qubit the frame on its acquire port, and the one on its drive port
 abbrev pub families : List Family
-families = family_of (codes "drive") (0 ∷ 1 ∷ 2 ∷ []) ∷ family_of (codes "acquire") (3 ∷ 4 ∷ 5 ∷ []) ∷ []
+families = family_of (codes "acquire") (3 ∷ 4 ∷ 5 ∷ []) ∷ family_of (codes "drive") (0 ∷ 1 ∷ 2 ∷ []) ∷ []
 
 -- the calibrations of the machine's gates and of its measurement
 unfoldable pub calibrations : List ℕ

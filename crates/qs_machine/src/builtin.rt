@@ -118,8 +118,8 @@ fn families(alloc: Global) -> Result<List<Family>, Memory>
     ensures { IfOk result (λ all. all ≡ families) }
 {
     let all = vec![in alloc;
-        family_of(alloc, "drive", &[0, 1, 2])?,
         family_of(alloc, "acquire", &[3, 4, 5])?,
+        family_of(alloc, "drive", &[0, 1, 2])?,
     ]?;
     Ok(List::from_vec(all))
 }
@@ -133,7 +133,7 @@ fn calibrations(alloc: Global) -> Result<Name, Memory>
 
 impl Machine {
     /// The machine that is built in: three qubits, each with a drive port that has a controller of
-    /// its own, and with an acquire port on one controller for all. A tick is 1 ns. `Memory` is want
+    /// its own, and with an acquire port on one controller for all. A tick is 1 ns. `Memory` is out
     /// of memory.
     pub fn builtin(alloc: Global) -> Result<Machine, Memory>
         ensures { IfOk result (λ machine. machine ≡ built_in) }

@@ -1,9 +1,24 @@
-//! Machine tables: what a machine has, and the machine that is built in.
+//! Machine tables and tapes: what a machine has, the machine that is built in, and the readers of
+//! both from JSON.
 #![tactic(auto)]
 
 mod builtin;
+#[cfg(test)]
+mod cases;
+mod controllers;
+mod families;
+mod forms;
+mod frames;
 mod machine;
+mod names;
+mod ports;
+mod refusal;
+mod table;
+mod tape;
 #[cfg(test)]
 mod tests;
+mod waveforms;
 
 pub use machine::{CtlKind, Family, Machine, Port, Sample, Wave};
+pub use refusal::{Field, MachineRefusal, Part, TapeField, TapeRefusal};
+pub use tape::tape_from_json;
