@@ -4,16 +4,16 @@ use Rattle.std.proofs.lemmas.Bool.{cases_Bool, cond-true, cond-false}
 use Rattle.std.proofs.lemmas.Bool.Decides.{nat_tests}
 use Rattle.std.specs.List.{list_any}
 use Rattle.box_schedule.specs.declared.block.TOp.{TOp}
-use Rattle.box_schedule.specs.Clocks.{greatest}
-use Rattle.box_schedule.specs.Placement.{Begun, end_from, is_among, opened, shares, start_after}
-use Rattle.box_schedule.proofs.PlacementLemmas.{begun}
+use Rattle.box_schedule.specs.steps.Clocks.{greatest}
+use Rattle.box_schedule.specs.Placement.{PlacedOp, end_from, is_among, opened, shares, start_after}
+use Rattle.box_schedule.proofs.PlacementLemmas.{placed_at}
 
 -- the end of this operation, on a qubit that it has
-abbrev pub end_on : Begun → ℕ → ℕ
+abbrev pub end_on : PlacedOp → ℕ → ℕ
 end_on earlier q = if is_among (opened earlier.op).qubits q then end_from earlier.start earlier.op else 0
 
 -- the greatest end of these operations on a qubit
-abbrev pub clock_of : List Begun → ℕ → ℕ
+abbrev pub clock_of : List PlacedOp → ℕ → ℕ
 clock_of [] q = 0
 clock_of (earlier ∷ rest) q = max (end_on earlier q) (clock_of rest q)
 
@@ -65,7 +65,7 @@ list_any-swap [] ys = sym (list_any-none ys)
 list_any-swap (x ∷ xs) ys =
     rw (list_any-swap xs ys, list_any-nat_eq x ys) (sym (list_any-or (λ y. nat_eq y x) (is_among xs) ys))
 
-pub start_after-greatest : (done : List Begun) (op : TOp) → start_after done op ≡ greatest (clock_of done) (opened op).qubits
+pub start_after-greatest : (done : List PlacedOp) (op : TOp) → start_after done op ≡ greatest (clock_of done) (opened op).qubits
 start_after-greatest [] op = sym (greatest-zero (opened op).qubits)
 start_after-greatest (earlier ∷ rest) op =
     let qubits : List ℕ = (opened op).qubits in
@@ -88,19 +88,19 @@ pub greatest-le : (f : ℕ → ℕ) (qs : List ℕ) (n : ℕ) → ((i : ℕ) →
 greatest-le f [] n below = omega arith
 greatest-le f (q ∷ qs) n below = omega (arith, below 0 (omega arith), greatest-le f qs n (λ i h. below (suc i) (omega arith)))
 
-pub clock_of-push : (done : List Begun) (last : Begun) (q : ℕ) → clock_of (done ++ last ∷ []) q ≡ max (clock_of done q) (end_on last q)
+pub clock_of-push : (done : List PlacedOp) (last : PlacedOp) (q : ℕ) → clock_of (done ++ last ∷ []) q ≡ max (clock_of done q) (end_on last q)
 clock_of-push [] last q = omega arith
 clock_of-push (earlier ∷ rest) last q = omega (arith, clock_of-push rest last q)
 
 -- What moves the clocks of the operation's qubits to its end, but none back.
-pub clock_of-begun : (done : List Begun) (op : TOp) (q : ℕ)
-    → clock_of (done ++ begun done op ∷ []) q
+pub clock_of-placed_at : (done : List PlacedOp) (op : TOp) (q : ℕ)
+    → clock_of (done ++ placed_at done op ∷ []) q
     ≡ (if is_among (opened op).qubits q then max (end_from (start_after done op) op) (clock_of done q) else clock_of done q)
-clock_of-begun done op q = elim (cases_Bool (is_among (opened op).qubits q)) [
+clock_of-placed_at done op q = elim (cases_Bool (is_among (opened op).qubits q)) [
   | inl among ↦
-      let own : end_on (begun done op) q ≡ end_from (start_after done op) op = cond-true _ _ _ among in
-      rw among (omega (arith, clock_of-push done (begun done op) q))
+      let own : end_on (placed_at done op) q ≡ end_from (start_after done op) op = cond-true _ _ _ among in
+      rw among (omega (arith, clock_of-push done (placed_at done op) q))
   | inr absent ↦
-      let own : end_on (begun done op) q ≡ 0 = cond-false _ _ _ absent in
-      rw absent (omega (arith, clock_of-push done (begun done op) q))
+      let own : end_on (placed_at done op) q ≡ 0 = cond-false _ _ _ absent in
+      rw absent (omega (arith, clock_of-push done (placed_at done op) q))
 ]

@@ -4,17 +4,17 @@ use Rattle.std.proofs.lemmas.List.{take_more, length-take-le}
 use Rattle.std.proofs.lemmas.Bool.{cond-true, cond-false, cases_Bool}
 use Rattle.std.specs.Int.{saturate_unsigned}
 use Rattle.box_schedule.specs.declared.block.TOp.{TOp}
-use Rattle.box_schedule.specs.Clocks.{greatest}
+use Rattle.box_schedule.specs.steps.Clocks.{greatest}
 use Rattle.box_schedule.specs.Placement.{IsPlain, end_from, is_among, opened, start_after, starts_of, length_of}
-use Rattle.box_schedule.proofs.PlacementLemmas.{begun_behind, begun_behind-push, starts_behind-push, length_of-push}
+use Rattle.box_schedule.proofs.PlacementLemmas.{placed_after, placed_after-push, starts_after-push, length_of-push}
 use Rattle.box_schedule.proofs.EndLemmas.{end_from-plain, saturate_natural}
-use Rattle.box_schedule.proofs.ClockLemmas.{clock_of, clock_of-begun, start_after-greatest, greatest-same, greatest-le}
+use Rattle.box_schedule.proofs.ClockLemmas.{clock_of, clock_of-placed_at, start_after-greatest, greatest-same, greatest-le}
 
 -- These operations are placed, and each qubit's clock is the greatest end on it.
 pub record HasPlaced (done : List TOp) (clocks : List ℕ) (latest : ℕ) (starts : List ℕ) : Type 0 where
   pub starts_are : starts ≡ starts_of done
   pub latest_is : latest ≡ length_of done
-  pub clocks_are : (q : ℕ) → q < 256 → slice_index clocks q ≡ clock_of (begun_behind [] done) q
+  pub clocks_are : (q : ℕ) → q < 256 → slice_index clocks q ≡ clock_of (placed_after [] done) q
   pub below : (q : ℕ) → q < 256 → slice_index clocks q ≤ length done * 2 ^ 32
 
 -- Each of these qubits has a clock.
@@ -23,10 +23,10 @@ HaveClocks qubits = (i : ℕ) → i < length qubits → slice_index qubits i < 2
 
 -- Where the next operation begins, by the clocks.
 pub start_from_clocks : (done : List TOp) (op : TOp) (clocks : List ℕ) (latest : ℕ) (starts : List ℕ) → HaveClocks (opened op).qubits → HasPlaced done clocks latest starts
-    → greatest (slice_index clocks) (opened op).qubits ≡ start_after (begun_behind [] done) op
+    → greatest (slice_index clocks) (opened op).qubits ≡ start_after (placed_after [] done) op
 start_from_clocks done op clocks latest starts known placed =
-    greatest-same (slice_index clocks) (clock_of (begun_behind [] done)) (opened op).qubits (λ i h. placed.clocks_are _ (known i h))
-    ∙ sym (start_after-greatest (begun_behind [] done) op)
+    greatest-same (slice_index clocks) (clock_of (placed_after [] done)) (opened op).qubits (λ i h. placed.clocks_are _ (known i h))
+    ∙ sym (start_after-greatest (placed_after [] done) op)
 
 pub start_from_clocks-le : (done : List TOp) (op : TOp) (clocks : List ℕ) (latest : ℕ) (starts : List ℕ) → HaveClocks (opened op).qubits → HasPlaced done clocks latest starts
     → greatest (slice_index clocks) (opened op).qubits ≤ length done * 2 ^ 32
@@ -39,11 +39,11 @@ HasPlaced-push : (done : List TOp) (op : TOp) (clocks moved : List ℕ) (latest 
     → ((q : ℕ) → q < 256 → slice_index moved q ≡ (if is_among (opened op).qubits q then max end (slice_index clocks q) else slice_index clocks q))
     → HasPlaced (done ++ op ∷ []) moved (max end latest) (starts ++ start ∷ [])
 HasPlaced-push done op clocks moved latest starts start end plain known placed begins ends moves =
-    let begins_after : start ≡ start_after (begun_behind [] done) op = begins ∙ start_from_clocks done op clocks latest starts known placed in
+    let begins_after : start ≡ start_after (placed_after [] done) op = begins ∙ start_from_clocks done op clocks latest starts known placed in
     record {
-      starts_are = rw (starts_behind-push [] done op, placed.starts_are, begins_after) refl;
+      starts_are = rw (starts_after-push [] done op, placed.starts_are, begins_after) refl;
       latest_is = rw (length_of-push done op, placed.latest_is, ends, begins_after) refl;
-      clocks_are = λ q small. rw (begun_behind-push [] done op, moves q small, clock_of-begun (begun_behind [] done) op q, ends, begins_after, placed.clocks_are q small) refl;
+      clocks_are = λ q small. rw (placed_after-push [] done op, moves q small, clock_of-placed_at (placed_after [] done) op q, ends, begins_after, placed.clocks_are q small) refl;
       below = λ q small. elim (cases_Bool (is_among (opened op).qubits q)) [
         | inl among ↦
             let own : slice_index moved q ≡ max end (slice_index clocks q) = moves q small ∙ cond-true _ _ _ among in

@@ -1,3 +1,3 @@
-pub mod Clocks
+pub mod steps
 pub mod Codes
 pub mod Placement

@@ -34,29 +34,29 @@ is_among qubits q = list_any (nat_eq q) qubits
 abbrev pub shares : TOp → TOp → Bool
 shares a b = list_any (is_among (opened b).qubits) (opened a).qubits
 
--- an operation, and the tick at which it begins
-pub record Begun : Type 0 where
+-- an operation with the tick at which it begins
+pub record PlacedOp : Type 0 where
   pub op : TOp
   pub start : ℕ
 
 -- where an earlier operation lets this one begin: at its end, where they share a qubit
-abbrev pub end_for : TOp → Begun → ℕ
-end_for op earlier = if shares earlier.op op then end_from earlier.start earlier.op else 0
+abbrev pub earliest_after : TOp → PlacedOp → ℕ
+earliest_after op earlier = if shares earlier.op op then end_from earlier.start earlier.op else 0
 
 -- the greatest of 0 and these ends
-abbrev pub start_after : List Begun → TOp → ℕ
+abbrev pub start_after : List PlacedOp → TOp → ℕ
 start_after [] op = 0
-start_after (earlier ∷ rest) op = max (end_for op earlier) (start_after rest op)
+start_after (earlier ∷ rest) op = max (earliest_after op earlier) (start_after rest op)
 
--- the starts of operations behind earlier ones
-abbrev pub starts_behind : List Begun → List TOp → List ℕ
-starts_behind earlier [] = []
-starts_behind earlier (op ∷ ops) =
-    start_after earlier op ∷ starts_behind (earlier ++ record { op = op; start = start_after earlier op } ∷ []) ops
+-- the starts of operations after earlier ones
+abbrev pub starts_after : List PlacedOp → List TOp → List ℕ
+starts_after earlier [] = []
+starts_after earlier (op ∷ ops) =
+    start_after earlier op ∷ starts_after (earlier ++ record { op = op; start = start_after earlier op } ∷ []) ops
 
 -- the starts of a block's operations
 abbrev pub starts_of : List TOp → List ℕ
-starts_of ops = starts_behind [] ops
+starts_of ops = starts_after [] ops
 
 -- the greatest end
 abbrev pub latest_end : List TOp → List ℕ → ℕ

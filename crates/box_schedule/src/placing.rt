@@ -1,5 +1,5 @@
 ghost use Rattle.std.specs.Prelude.{◌≡◌, ℕ, ◌<◌, ◌≤◌, ◌^◌, All, length, max, MatchOption, slice_index, if◌then◌else◌, IfOk};
-ghost use Rattle.box_schedule.specs.Clocks.{greatest};
+ghost use Rattle.box_schedule.specs.steps.Clocks.{greatest};
 ghost use Rattle.box_schedule.specs.Placement.{IsEarliest, IsFirstNegative, IsPlain, NoneIsNegative, Places, is_among, length_of, starts_of};
 
 use crate::block::{Placed, TBlock, TOp};
@@ -13,13 +13,16 @@ const QUBITS: usize = 256;
 /// How many ticks a block lasts at most.
 const LONGEST: u64 = 1 << 40;
 
-/// When the operations of a block begin: each as soon as the earlier ones on its qubits have ended, and no
-/// earlier start is possible at any of them. Lengths are constant so far, from -2^32 to 2^32 ticks, so `values`,
-/// the value in ticks of each stretch by its number, isn't read yet. No operation ends before tick 0.
+/// When the operations of a block begin, in ticks: each as soon as the earlier ones on its qubits have
+/// ended. Every valid schedule starts each operation at this tick or later.
 ///
-/// Refused with `TickOut`, at the first operation, where the block lasts longer than 2^40 ticks, or else with
-/// `DelayNegative` at the first operation that lasts less than 0 ticks: refusals go by place, then by code.
-/// `Memory` is want of memory, which may come in place of any answer.
+/// Lengths are constant so far, from -2^32 to 2^32 ticks. So `values`, the ticks of each stretch by its
+/// number, isn't read yet. No operation ends before tick 0.
+///
+/// # Errors
+/// `TickOut`, at the first operation, where the block lasts longer than 2^40 ticks; else `DelayNegative`
+/// at the first operation that lasts less than 0 ticks. `Memory` is out of memory, and may come in place
+/// of any answer.
 pub fn schedule(alloc: Global, block: &TBlock, values: &List<u64>) -> Result<Placed, BoxRefusal>
     requires plain { All IsPlain block.now.ops }
     requires count { length block.now.ops ≤ 2 ^ 24 }
@@ -53,7 +56,8 @@ fn first_negative(ops: &[TOp]) -> Option<Span>
 fn place(alloc: Global, ops: &[TOp]) -> Result<Placed, AllocError>
     requires plain { All IsPlain ops.now }
     requires count { length ops.now ≤ 2 ^ 24 }
-    ensures { IfOk result (λ placed. (placed.starts ≡ starts_of ops.now) × (placed.length ≡ length_of ops.now)) }
+    ensures { IfOk result (λ placed.
+        (placed.starts ≡ starts_of ops.now) × (placed.length ≡ length_of ops.now)) }
 {
     let mut clocks = [0; QUBITS];
     let mut starts = Vec::with_capacity(alloc, ops.len())?;
@@ -87,7 +91,8 @@ fn begin(clocks: &[u64; QUBITS], qubits: &[u8]) -> u64
 
 /// Moves the clocks of these qubits to the tick `end`, but none back.
 fn move_clocks(clocks: &mut [u64; QUBITS], qubits: &[u8], end: u64)
-    ensures { (q : ℕ) → q < QUBITS → slice_index clocks.new q ≡ (if is_among qubits.now q then max end (slice_index clocks.old q) else slice_index clocks.old q) }
+    ensures { (q : ℕ) → q < QUBITS → slice_index clocks.new q
+        ≡ (if is_among qubits.now q then max end (slice_index clocks.old q) else slice_index clocks.old q) }
 {
     for qubit in qubits {
         let clock = &mut clocks[usize::from(*qubit)];

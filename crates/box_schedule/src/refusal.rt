@@ -11,12 +11,12 @@ pub enum BoxRefusal {
     TickOut { span: Span },
     /// A delay lasts less than 0 ticks. The place is that of the delay.
     DelayNegative { span: Span },
-    /// Want of memory.
+    /// Out of memory.
     Memory,
 }
 
 impl BoxRefusal {
-    /// The number under which a refusal is printed, and 0 for want of memory.
+    /// The number under which a refusal is printed, and 0 for out of memory.
     pub fn code(&self) -> u16
         ensures { result ≡ code_of self.now }
     {
@@ -29,9 +29,9 @@ impl BoxRefusal {
 }
 
 impl From<AllocError> for BoxRefusal {
-    ghost use Rattle.box_schedule.specs.declared.refusal.BoxRefusal.TheVariants.{Memory as WantOfMemory};
+    ghost use Rattle.box_schedule.specs.declared.refusal.BoxRefusal.TheVariants.{Memory as OutOfMemory};
 
-    ghost from_gives = { λ _ refusal. refusal ≡ WantOfMemory };
+    ghost from_gives = { λ _ refusal. refusal ≡ OutOfMemory };
 
     fn from(_: AllocError) -> BoxRefusal {
         BoxRefusal::Memory

@@ -250,7 +250,7 @@ fn make_op(
     })
 }
 
-/// Puts equal operations behind others, each on a line of its own.
+/// Puts equal operations after others, each on a line of its own.
 fn add_ops(
     rt: &impl Abort,
     alloc: Global,

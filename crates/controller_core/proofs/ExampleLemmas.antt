@@ -1,6 +1,6 @@
 -- The worked example as the tests make it, and its core after a run.
 use Rattle.std.proofs.Common.{◌≡◌, ℕ, List, [], ◌∷◌, ap, refl, sym, ◌∙◌}
-use Rattle.std.specs.Prelude.{IsTrue, ◌++◌}
+use Rattle.std.specs.Prelude.{IsTrue}
 use Rattle.std.proofs.Math.Bool.{Bool-set}
 use Rattle.qs_values.specs.declared.kind.Kind.{Kind}
 use Rattle.qs_values.specs.declared.kind.Kind.TheVariants.{Bit, Bits, Uint}
@@ -8,11 +8,9 @@ use Rattle.qs_values.specs.declared.kind.Ty.{Ty}
 use Rattle.qs_values.specs.Kind.{has_width}
 use Rattle.plan_tree.specs.declared.part.Part.{Part}
 use Rattle.plan_tree.specs.Parts.{parts_of}
-use Rattle.plan_tree.specs.Example.{bit, example_plan, register}
-use Rattle.controller_core.specs.Core.{CoreState, Runs, sweeps_of}
-use Rattle.controller_core.specs.Example.{IsReady}
-use Rattle.controller_core.specs.Reached.{IsReached}
-use Rattle.controller_core.proofs.SweepLemmas.{picks-plan}
+use Rattle.controller_core.specs.Core.{CoreState}
+use Rattle.controller_core.specs.examples.Ready.{IsReady}
+use Rattle.plan_tree.specs.examples.TwoBlocks.{bit, example_plan, register}
 
 abbrev same_type : Ty → Ty → Type 0
 same_type t u = t ≡ u
@@ -35,7 +33,6 @@ inputs-same b n p q is_b is_n = rw (is_b, is_n)
     (ap (λ t. record { name = 98 ∷ []; ty = t; first = 0 } ∷ record { name = 110 ∷ []; ty = record { kind = Uint; width = 8; wide = q }; first = 3 } ∷ []) (wide-same Bits 3 p refl)
     ∙ ap (λ t. record { name = 98 ∷ []; ty = register; first = 0 } ∷ record { name = 110 ∷ []; ty = t; first = 3 } ∷ []) (wide-same Uint 8 q refl))
 
-pub ready-run : (parts : List Part) (old new : CoreState) (order : List ℕ) (stepped waited : ℕ) → IsReady parts old → Runs order old new stepped waited → IsReached new → IsReady parts new
-ready-run parts old new order stepped waited ready runs r =
-    let kept = ap (λ c. c.plan) runs.state ∙ picks-plan old (order ++ sweeps_of old.plan.controllers runs.sweeps) in
-    record { reached = r; fit = ready.fit ∙ ap parts_of (sym kept); controllers = ap (λ p. p.controllers) kept ∙ ready.controllers }
+-- A core of the same plan has the same parts.
+pub ready-same : (parts : List Part) (old new : CoreState) → IsReady parts old → new.plan ≡ old.plan → IsReady parts new
+ready-same parts old new ready same = record { fit = ready.fit ∙ ap parts_of (sym same); controllers = ap (λ p. p.controllers) same ∙ ready.controllers }

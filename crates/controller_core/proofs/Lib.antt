@@ -1,6 +1,5 @@
-pub mod Following
-pub mod Laws
 pub mod PickLemmas
 pub mod SweepLemmas
 pub mod StartLemmas
+pub mod OverLemmas
 pub mod ExampleLemmas

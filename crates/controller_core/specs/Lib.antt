@@ -1,3 +1,4 @@
 pub mod Core
 pub mod Reached
-pub mod Example
+pub mod Laws
+pub mod examples

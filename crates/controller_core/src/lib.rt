@@ -1,8 +1,10 @@
 //! All controllers of a plan, which run by picks.
 #![tactic(auto)]
 
-mod core_state;
+mod laws;
+mod picks;
 #[cfg(test)]
 mod tests;
 
-pub use core_state::{Core, Counts, Stepped};
+pub use laws::{every_order_is_the_run, runs_once};
+pub use picks::{Core, Counts, Stepped};

@@ -1,10 +1,10 @@
 ghost use Rattle.std.specs.Prelude.{◌≡◌, ◌<◌, All, IfOk};
-ghost use Rattle.plan_tree.specs.Example.{example_part, example_parts, example_plan, example_tape};
-ghost use Rattle.controller_core.specs.Example.{IsReady};
+ghost use Rattle.plan_tree.specs.examples.TwoBlocks.{example_part, example_parts, example_plan, example_tape};
+ghost use Rattle.controller_core.specs.examples.Ready.{IsReady};
 
 use crate::{Core, Counts, Stepped};
 use controller_machine::{Ctl, Ctls, Ending, Played};
-use plan_tree::{Block, Deed, Event, Item, Part, PartStmt, Plan, PlanStmt};
+use plan_tree::{Block, Deed, Event, Item, Part, PartStmt, Plan, PlanStmt, example_is_sound};
 use qs_values::{FrameStart, Input, Kind, List, Memory, Name, Tape, Ty};
 use std::alloc::Global;
 use std::process::Abort;
@@ -153,6 +153,7 @@ fn make_core(alloc: Global, parts: &List<Part>) -> Result<Core, Memory>
     requires { parts.now ≡ example_parts }
     ensures { IfOk result (IsReady parts.now) }
 {
+    example_is_sound();
     let plan = make_plan(alloc)?;
     let tape = make_tape(alloc)?;
     Core::new(alloc, parts, &plan, &tape, 1)

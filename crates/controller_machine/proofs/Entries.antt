@@ -37,10 +37,10 @@ abbrev pub entries_of : List FrameState → Place → ℕ → ℕ → List PlanS
 entries_of frames here n tick [] = []
 entries_of frames here n tick (x ∷ xs) = stmt_entries frames (n ∷ here) tick x ++ entries_of frames here (n + 1) (tick + length_in x) xs
 
--- the tick behind statements
-abbrev pub tick_behind : ℕ → List PlanStmt → ℕ
-tick_behind tick [] = tick
-tick_behind tick (x ∷ xs) = tick_behind (tick + length_in x) xs
+-- the tick after statements
+abbrev pub tick_after : ℕ → List PlanStmt → ℕ
+tick_after tick [] = tick
+tick_after tick (x ∷ xs) = tick_after (tick + length_in x) xs
 
 -- entries before what follows
 abbrev before : List Entry → Outcome → Outcome
@@ -59,12 +59,12 @@ module _ (plan : Plan) (tape : Tape) where
       deed-entry (n ∷ here) e e.act (events_then plan tape here (n + 1) es rest) s
       ∙ ap (λ (o : Outcome). with_entry (entry_of s.frames (n ∷ here) s.tick e e.act) o) (events-entries here (n + 1) es rest s)
 
-  walk-entries : (x : PlanStmt) (here : Place) (on : Onward) (s : RunState) →
+  walk-entries : (x : PlanStmt) (here : Place) (on : Onward Rest) (s : RunState) →
       walk plan tape x here on s ≡ before (stmt_entries s.frames here s.tick x) (on.next (record s { tick = s.tick + length_in x }))
   walk-entries (Block b) here on s = events-entries here 0 b.events (λ t. on.next (record t { tick = t.tick + b.length })) s
 
-  order-entries : (xs : List PlanStmt) (n : ℕ) (here : Place) (on : Onward) (s : RunState) →
-      in_order (map (walk plan tape) xs) n here on s ≡ before (entries_of s.frames here n s.tick xs) (on.next (record s { tick = tick_behind s.tick xs }))
+  order-entries : (xs : List PlanStmt) (n : ℕ) (here : Place) (on : Onward Rest) (s : RunState) →
+      in_order (map (walk plan tape) xs) n here on s ≡ before (entries_of s.frames here n s.tick xs) (on.next (record s { tick = tick_after s.tick xs }))
   order-entries [] n here on s = refl
   order-entries (x ∷ xs) n here on s =
       walk-entries x (n ∷ here) (record on { next = in_order (map (walk plan tape) xs) (n + 1) here on }) s
@@ -73,7 +73,7 @@ module _ (plan : Plan) (tape : Tape) where
 
   -- a run, as its entries before its end
   run-entries : run_of plan tape
-      ≡ before (entries_of (start_frames plan.frames) [] 0 0 plan.body) (at_the_end.next (record (start_of plan tape) { tick = tick_behind 0 plan.body }))
+      ≡ before (entries_of (start_frames plan.frames) [] 0 0 plan.body) (at_the_end.next (record (start_of plan tape) { tick = tick_after 0 plan.body }))
   run-entries = order-entries plan.body 0 [] at_the_end (start_of plan tape)
 
   -- The trace of a run.
@@ -81,7 +81,7 @@ module _ (plan : Plan) (tape : Tape) where
   run-trace = ap (λ (o : Outcome). o.trace) run-entries ∙ append-nil _
 
   -- The tick at a run's end.
-  pub run-tick : (run_of plan tape).tick ≡ tick_behind 0 plan.body
+  pub run-tick : (run_of plan tape).tick ≡ tick_after 0 plan.body
   run-tick = ap (λ (o : Outcome). o.tick) run-entries
 
   -- A run keeps its store.

@@ -1,8 +1,8 @@
 -- The timeline of a sound plan, and each controller's log of it, stand by tick and then by port.
 use Rattle.std.proofs.Common.{◌≡◌, ℕ, ◌+◌, ◌<◌, ◌≤◌, List, [], ◌∷◌, refl, ap, ap₂, ◌∙◌, arith, subst, sym, false}
 use Rattle.std.specs.Prelude.{All, IfSome, nat_eq}
+use Rattle.std.specs.Cmp.{IsTotalOrder}
 use Rattle.std.specs.List.{AllPairs}
-use Rattle.std.specs.List.Sorted.{IsSortedByKey}
 use Rattle.std.specs.Ordering.{is_lt}
 use Rattle.std.proofs.lemmas.List.Elements.{All-nil, All-head, All-tail, All-append, All-same, All-weaker, filter_map-append}
 use Rattle.std.proofs.lemmas.List.Sorted.{ranks_by}
@@ -18,17 +18,18 @@ use Rattle.plan_tree.specs.declared.plan.PlanStmt.TheVariants.{Block as PlanBloc
 use Rattle.plan_tree.specs.Run.{Place, Entry, start_frames, run_of}
 use Rattle.plan_tree.specs.Acts.{actor, all_acts, planned_acts}
 use Rattle.plan_tree.specs.Sound.{IsSound, IsSoundDeed, IsSoundEvent, IsSoundStmt, start_cmp, start_key}
-use Rattle.plan_tree.proofs.InOrder.{All-cons_option, AllPairs-append, AllPairs-cons_option, AllPairs-from_sorted, AllPairs-head, AllPairs-part, AllPairs-tail, sorted-from_AllPairs, start-later, start-moved, start-total}
+use Rattle.controller_machine.proofs.InOrder.{All-cons_option, AllPairs-append, AllPairs-cons_option, AllPairs-from_sorted, AllPairs-head, AllPairs-part, AllPairs-tail, sorted-from_AllPairs, start-later, start-moved}
 use Rattle.controller_machine.specs.declared.ctl.Played.{Played}
+use Rattle.controller_machine.specs.Laws.{LogsStandInOrder}
 use Rattle.controller_machine.specs.Log.{log_of, play_key, played_by, played_in, timeline_of}
 use Rattle.controller_machine.proofs.Entries.{entry_of, event_entries, stmt_entries, entries_of, length_in, run-trace}
 use Rattle.controller_machine.proofs.Timeline.{all-log}
 
--- The second play may stand behind the first.
+-- The second play may stand after the first.
 abbrev MayPrecede : Played → Played → Type 0
 MayPrecede p q = is_lt (start_cmp (play_key q) (play_key p)) ≡ false
 
--- The second event may stand behind the first.
+-- The second event may stand after the first.
 abbrev EventPrecedes : Event → Event → Type 0
 EventPrecedes d e = is_lt (start_cmp (start_key e) (start_key d)) ≡ false
 
@@ -80,53 +81,49 @@ events-order frames here n tick (e ∷ es) pairs =
     (All-weaker (EventPrecedes e) (λ d. (q : Played) → IsOf tick d q → MayPrecede p q) (λ d before q second. of-moved tick e d p q before first second) es (AllPairs-head EventPrecedes e es pairs))))
     (events-order frames here (n + 1) tick es (AllPairs-tail EventPrecedes e es pairs))
 
-stmt-within : (plan : Plan) (frames : List FrameState) (here : Place) (tick : ℕ) (x : PlanStmt) → IsSoundStmt plan x → All (IsWithin tick (length_in x)) (timeline_of (stmt_entries frames here tick x))
+stmt-within : (plan : Plan) (frames : List FrameState) (here : Place) (tick : ℕ) (x : PlanStmt) → IsSoundStmt plan false x → All (IsWithin tick (length_in x)) (timeline_of (stmt_entries frames here tick x))
 stmt-within plan frames here tick (PlanBlock b) sound =
     events-all (IsWithin tick b.length) frames here 0 tick b.events
     (All-weaker (IsSoundEvent plan b.length) (λ e. (p : Played) → IsOf tick e p → IsWithin tick b.length p) (of-within plan b.length tick) b.events sound.events)
 
-stmt-order : (plan : Plan) (frames : List FrameState) (here : Place) (tick : ℕ) (x : PlanStmt) → IsSoundStmt plan x → AllPairs MayPrecede (timeline_of (stmt_entries frames here tick x))
-stmt-order plan frames here tick (PlanBlock b) sound =
-    events-order frames here 0 tick b.events (AllPairs-from_sorted (λ d e. is_lt (start_cmp (start_key d) (start_key e))) (ranks_by start-total start_key) b.events sound.order)
+stmt-order : (total : IsTotalOrder start_cmp) (plan : Plan) (frames : List FrameState) (here : Place) (tick : ℕ) (x : PlanStmt) → IsSoundStmt plan false x → AllPairs MayPrecede (timeline_of (stmt_entries frames here tick x))
+stmt-order total plan frames here tick (PlanBlock b) sound =
+    events-order frames here 0 tick b.events (AllPairs-from_sorted (λ d e. is_lt (start_cmp (start_key d) (start_key e))) (ranks_by total start_key) b.events sound.order)
 
-body-from : (plan : Plan) (frames : List FrameState) (here : Place) (n tick : ℕ) (xs : List PlanStmt) → All (IsSoundStmt plan) xs → All (IsFrom tick) (timeline_of (entries_of frames here n tick xs))
+body-from : (plan : Plan) (frames : List FrameState) (here : Place) (n tick : ℕ) (xs : List PlanStmt) → All (IsSoundStmt plan false) xs → All (IsFrom tick) (timeline_of (entries_of frames here n tick xs))
 body-from plan frames here n tick [] sound = All-nil (IsFrom tick)
 body-from plan frames here n tick (x ∷ xs) sound =
     let first : List Entry = stmt_entries frames (n ∷ here) tick x in
     let rest : List Entry = entries_of frames here (n + 1) (tick + length_in x) xs in
     All-same (IsFrom tick) _ _ (filter_map-append played_in first rest)
     (All-append (IsFrom tick) (timeline_of first) (timeline_of rest)
-    (All-weaker (IsWithin tick (length_in x)) (IsFrom tick) (λ p within. within.0) (timeline_of first) (stmt-within plan frames (n ∷ here) tick x (All-head (IsSoundStmt plan) x xs sound)))
-    (All-weaker (IsFrom (tick + length_in x)) (IsFrom tick) (λ p from. omega arith) (timeline_of rest) (body-from plan frames here (n + 1) (tick + length_in x) xs (All-tail (IsSoundStmt plan) x xs sound))))
+    (All-weaker (IsWithin tick (length_in x)) (IsFrom tick) (λ p within. within.0) (timeline_of first) (stmt-within plan frames (n ∷ here) tick x (All-head (IsSoundStmt plan false) x xs sound)))
+    (All-weaker (IsFrom (tick + length_in x)) (IsFrom tick) (λ p from. omega arith) (timeline_of rest) (body-from plan frames here (n + 1) (tick + length_in x) xs (All-tail (IsSoundStmt plan false) x xs sound))))
 
 within-before : (tick ticks : ℕ) (rest : List Played) → All (IsFrom (tick + ticks)) rest → (p : Played) → IsWithin tick ticks p → All (MayPrecede p) rest
 within-before tick ticks rest all p within = All-weaker (IsFrom (tick + ticks)) (MayPrecede p) (λ q from. start-later p.tick p.port q.tick q.port (omega (arith, within.1, from))) rest all
 
-body-order : (plan : Plan) (frames : List FrameState) (here : Place) (n tick : ℕ) (xs : List PlanStmt) → All (IsSoundStmt plan) xs → AllPairs MayPrecede (timeline_of (entries_of frames here n tick xs))
-body-order plan frames here n tick [] sound = λ i j d before within. absurd (omega arith)
-body-order plan frames here n tick (x ∷ xs) sound =
+body-order : (total : IsTotalOrder start_cmp) (plan : Plan) (frames : List FrameState) (here : Place) (n tick : ℕ) (xs : List PlanStmt) → All (IsSoundStmt plan false) xs → AllPairs MayPrecede (timeline_of (entries_of frames here n tick xs))
+body-order total plan frames here n tick [] sound = λ i j d before within. absurd (omega arith)
+body-order total plan frames here n tick (x ∷ xs) sound =
     let first : List Entry = stmt_entries frames (n ∷ here) tick x in
     let rest : List Entry = entries_of frames here (n + 1) (tick + length_in x) xs in
-    let here_sound = All-head (IsSoundStmt plan) x xs sound in
-    let rest_sound = All-tail (IsSoundStmt plan) x xs sound in
+    let here_sound = All-head (IsSoundStmt plan false) x xs sound in
+    let rest_sound = All-tail (IsSoundStmt plan false) x xs sound in
     subst (AllPairs MayPrecede) (sym (filter_map-append played_in first rest))
     (AllPairs-append MayPrecede (timeline_of first) (timeline_of rest)
-    (stmt-order plan frames (n ∷ here) tick x here_sound)
-    (body-order plan frames here (n + 1) (tick + length_in x) xs rest_sound)
+    (stmt-order total plan frames (n ∷ here) tick x here_sound)
+    (body-order total plan frames here (n + 1) (tick + length_in x) xs rest_sound)
     (All-weaker (IsWithin tick (length_in x)) (λ p. All (MayPrecede p) (timeline_of rest))
     (within-before tick (length_in x) (timeline_of rest) (body-from plan frames here (n + 1) (tick + length_in x) xs rest_sound))
     (timeline_of first) (stmt-within plan frames (n ∷ here) tick x here_sound)))
 
-timeline-pairs : (plan : Plan) (tape : Tape) → IsSound plan → AllPairs MayPrecede (timeline_of (run_of plan tape).trace)
-timeline-pairs plan tape sound = subst (λ trace. AllPairs MayPrecede (timeline_of trace)) (sym (run-trace plan tape)) (body-order plan (start_frames plan.frames) [] 0 0 plan.body sound.body)
+timeline-pairs : (total : IsTotalOrder start_cmp) (plan : Plan) (tape : Tape) → IsSound plan → AllPairs MayPrecede (timeline_of (run_of plan tape).trace)
+timeline-pairs total plan tape sound = subst (λ trace. AllPairs MayPrecede (timeline_of trace)) (sym (run-trace plan tape)) (body-order total plan (start_frames plan.frames) [] 0 0 plan.body sound.body)
 
--- The timeline of a sound plan's run stands by tick and then by port.
-pub timeline-ordered : (plan : Plan) (tape : Tape) → IsSound plan → IsSortedByKey play_key start_cmp (timeline_of (run_of plan tape).trace)
-timeline-ordered plan tape sound = sorted-from_AllPairs (λ p q. is_lt (start_cmp (play_key p) (play_key q))) (timeline_of (run_of plan tape).trace) (timeline-pairs plan tape sound)
-
--- So does each controller's log: it is a part of the timeline, in its order.
-pub logs-ordered : (plan : Plan) (tape : Tape) (k : ℕ) → IsSound plan → IsSortedByKey play_key start_cmp (log_of (planned_acts plan tape k))
-logs-ordered plan tape k sound =
+-- Each controller's log is a part of the timeline, in its order.
+pub logs-ordered : IsTotalOrder start_cmp → LogsStandInOrder
+logs-ordered total plan tape k sound =
     let trace : List Entry = (run_of plan tape).trace in
     sorted-from_AllPairs (λ p q. is_lt (start_cmp (play_key p) (play_key q))) (log_of (planned_acts plan tape k))
-    (AllPairs-part MayPrecede played_by (λ a. nat_eq (actor a) k) (all_acts plan trace) (subst (AllPairs MayPrecede) (sym (all-log plan trace)) (timeline-pairs plan tape sound)))
+    (AllPairs-part MayPrecede played_by (λ a. nat_eq (actor a) k) (all_acts plan trace) (subst (AllPairs MayPrecede) (sym (all-log plan trace)) (timeline-pairs total plan tape sound)))

@@ -1,7 +1,7 @@
 -- How many items, ticks and acts a sound plan has.
-use Rattle.std.proofs.Common.{◌≡◌, ℕ, ◌+◌, ◌*◌, ◌≤◌, ◌^◌, List, [], ◌∷◌, ◌++◌, length, map, refl, ap, arith, sym, ◌∙◌, subst, zero, suc}
-use Rattle.std.specs.Prelude.{All, Bool, true, false, ◌&&◌, cond, sum, count_by, filter, nat_eq}
-use Rattle.std.specs.List.{range_with_len}
+use Rattle.std.proofs.Common.{◌≡◌, ℕ, ◌+◌, ◌*◌, ◌≤◌, ◌^◌, List, [], ◌∷◌, ◌++◌, length, map, refl, ap, arith, sym, ◌∙◌, subst, suc}
+use Rattle.std.specs.List.{cons_option}
+use Rattle.std.specs.Prelude.{All, Option, Some, None, Bool, true, false, ◌&&◌, cond, sum, count_by, filter, nat_eq}
 use Rattle.std.proofs.lemmas.List.{length-append, length-map}
 use Rattle.std.proofs.lemmas.List.Elements.{All-nil, All-head, All-tail, All-append, All-map, All-filter, All-weaker}
 use Rattle.std.proofs.lemmas.List.Sums.{sum_by-cons, sum_by-append, length-filter, count_by-le-length}
@@ -16,31 +16,51 @@ use Rattle.plan_tree.specs.declared.plan.PlanStmt.TheVariants.{Block as PlanBloc
 use Rattle.plan_tree.specs.declared.part.Item.{Item}
 use Rattle.plan_tree.specs.declared.part.Item.TheVariants.{Own}
 use Rattle.plan_tree.specs.declared.part.PartStmt.{PartStmt}
+use Rattle.plan_tree.specs.declared.part.PartStmt.TheVariants.{Block, Wait}
 use Rattle.plan_tree.specs.Deeds.{plays}
 use Rattle.plan_tree.specs.Run.{Place, Entry, Happening, Pulsed, start_frames, run_of}
-use Rattle.plan_tree.specs.Acts.{actor, acts_by, all_acts, planned_acts}
-use Rattle.plan_tree.specs.Parts.{is_own, items_of, block_or_wait, part_stmt}
-use Rattle.plan_tree.specs.Sound.{IsSound, IsSoundDeed, IsSoundEvent, IsSoundStmt, weight_in, weight_of}
-use Rattle.controller_machine.specs.Ctl.{IsNear, items_left, most_in, plays_item, ticks_of}
+use Rattle.plan_tree.specs.Acts.{Act, actor, acts_by, all_acts, planned_acts}
+use Rattle.plan_tree.specs.Parts.{is_own, items_of, block_or_wait, kept_in_order, part_stmt, part_of}
+use Rattle.plan_tree.specs.Sound.{IsSoundDeed, IsSoundEvent, IsSoundStmt, weight_in, weight_all}
+use Rattle.controller_machine.specs.declared.ctl.Played.{Played}
+use Rattle.controller_machine.specs.Ctl.{most, most_in}
+use Rattle.controller_machine.specs.Laws.{ActsAreFew}
+use Rattle.controller_machine.specs.steps.Left.{IsNear, items_left, ticks_of}
+use Rattle.controller_machine.specs.Log.{log_of, played_by}
 use Rattle.controller_machine.proofs.Entries.{entries_of, event_entries, stmt_entries, length_in, run-trace}
-use Rattle.controller_machine.proofs.Standing.{ticks-stmt}
+use Rattle.controller_machine.proofs.Parts.{acts-planned, item_act, part_acts, ticks-stmt}
 
-weight-cons : (x : PlanStmt) (xs : List PlanStmt) → weight_of (x ∷ xs) ≡ weight_in x + weight_of xs
-weight-cons x xs = sum_by-cons (λ n. n) (weight_in x) (map weight_in xs)
+-- whether an item plays
+abbrev plays_item : Item → Bool
+plays_item (Own e) = plays e.act
+
+weight-cons : (budget : ℕ) (x : PlanStmt) (xs : List PlanStmt) → weight_all budget (x ∷ xs) ≡ weight_in budget x + weight_all budget xs
+weight-cons budget x xs = sum_by-cons (λ n. n) (weight_in budget x) (map (weight_in budget) xs)
 
 -- a statement of a sound plan is at most 2^40 ticks long
-stmt-short : (plan : Plan) (x : PlanStmt) → IsSoundStmt plan x → length_in x ≤ 2 ^ 40
+stmt-short : (plan : Plan) (x : PlanStmt) → IsSoundStmt plan false x → length_in x ≤ 2 ^ 40
 stmt-short plan (PlanBlock b) sound = sound.length
 
-stmt-weighs : (x : PlanStmt) → 1 ≤ weight_in x
-stmt-weighs (PlanBlock b) = omega arith
+stmt-weighs : (budget : ℕ) (x : PlanStmt) → 1 ≤ weight_in budget x
+stmt-weighs budget (PlanBlock b) = omega arith
+
+-- the part of statements
+abbrev part_from : Plan → ℕ → Place → ℕ → List PlanStmt → List PartStmt
+part_from plan k here n body = kept_in_order (map (part_stmt plan k) body) n here
 
 -- A part takes at most 2^40 ticks for each 1 that its plan weighs.
-pub ticks-few : (plan : Plan) (k : ℕ) (body : List PlanStmt) → All (IsSoundStmt plan) body → ticks_of (map (part_stmt plan k) body) ≤ weight_of body * 2 ^ 40
-ticks-few plan k [] sound = omega arith
-ticks-few plan k (x ∷ xs) sound =
-    let rest = ticks-few plan k xs (All-tail (IsSoundStmt plan) x xs sound) in
-    omega (arith, rest, ticks-stmt plan k x (map (part_stmt plan k) xs), weight-cons x xs, stmt-weighs x, stmt-short plan x (All-head (IsSoundStmt plan) x xs sound))
+pub ticks-few : (plan : Plan) (k : ℕ) (here : Place) (n : ℕ) (body : List PlanStmt) → All (IsSoundStmt plan false) body → ticks_of (part_from plan k here n body) ≤ weight_all plan.budget body * 2 ^ 40
+ticks-few plan k here n [] sound = omega arith
+ticks-few plan k here n (x ∷ xs) sound =
+    let rest = ticks-few plan k here (n + 1) xs (All-tail (IsSoundStmt plan false) x xs sound) in
+    omega (
+      arith,
+      rest,
+      ticks-stmt plan k x (n ∷ here) (part_from plan k here (n + 1) xs),
+      weight-cons plan.budget x xs,
+      stmt-weighs plan.budget x,
+      stmt-short plan x (All-head (IsSoundStmt plan false) x xs sound),
+    )
 
 items-block : (ticks : ℕ) (items : List Item) (rest : List PartStmt) → items_left (block_or_wait ticks items ∷ rest) 0 ≡ items ++ items_left rest 0
 items-block ticks [] rest = refl
@@ -53,23 +73,23 @@ event-near : (plan : Plan) (ticks : ℕ) (e : Event) → ticks ≤ 2 ^ 40 → Is
 event-near plan ticks e short sound = deed-near plan ticks e e.act short sound.act
 
 -- Each item of a part is near its block's beginning.
-pub items-near : (plan : Plan) (k : ℕ) (body : List PlanStmt) → All (IsSoundStmt plan) body → All IsNear (items_left (map (part_stmt plan k) body) 0)
-items-near plan k [] sound = All-nil IsNear
-items-near plan k (PlanBlock b ∷ xs) sound =
-    let block = All-head (IsSoundStmt plan) (PlanBlock b) xs sound in
+pub items-near : (plan : Plan) (k : ℕ) (here : Place) (n : ℕ) (body : List PlanStmt) → All (IsSoundStmt plan false) body → All IsNear (items_left (part_from plan k here n body) 0)
+items-near plan k here n [] sound = All-nil IsNear
+items-near plan k here n (PlanBlock b ∷ xs) sound =
+    let block = All-head (IsSoundStmt plan false) (PlanBlock b) xs sound in
     let near = All-weaker (IsSoundEvent plan b.length) (λ e. IsNear (Own e)) (λ e h. event-near plan b.length e block.length h) b.events block.events in
     let own = All-map IsNear Own (filter (is_own plan k) b.events) (All-filter (is_own plan k) (λ e. IsNear (Own e)) b.events near) in
-    subst (All IsNear) (sym (items-block b.length (items_of plan k b.events) (map (part_stmt plan k) xs)))
-    (All-append IsNear (items_of plan k b.events) _ own (items-near plan k xs (All-tail (IsSoundStmt plan) (PlanBlock b) xs sound)))
+    subst (All IsNear) (sym (items-block b.length (items_of plan k b.events) (part_from plan k here (n + 1) xs)))
+    (All-append IsNear (items_of plan k b.events) _ own (items-near plan k here (n + 1) xs (All-tail (IsSoundStmt plan false) (PlanBlock b) xs sound)))
 
 -- A part's items are at most what its plan weighs.
-pub items-weigh : (plan : Plan) (k : ℕ) (body : List PlanStmt) → length (items_left (map (part_stmt plan k) body) 0) ≤ weight_of body
-items-weigh plan k [] = omega arith
-items-weigh plan k (PlanBlock b ∷ xs) =
-    let left = ap length (items-block b.length (items_of plan k b.events) (map (part_stmt plan k) xs)) in
-    let both = length-append (items_of plan k b.events) (items_left (map (part_stmt plan k) xs) 0) in
+pub items-weigh : (plan : Plan) (k : ℕ) (here : Place) (n : ℕ) (body : List PlanStmt) → length (items_left (part_from plan k here n body) 0) ≤ weight_all plan.budget body
+items-weigh plan k here n [] = omega arith
+items-weigh plan k here n (PlanBlock b ∷ xs) =
+    let left = ap length (items-block b.length (items_of plan k b.events) (part_from plan k here (n + 1) xs)) in
+    let both = length-append (items_of plan k b.events) (items_left (part_from plan k here (n + 1) xs) 0) in
     let own = length-map (filter (is_own plan k) b.events) Own ∙ length-filter (is_own plan k) b.events in
-    omega (arith, left, both, own, count_by-le-length (is_own plan k) b.events, items-weigh plan k xs, weight-cons (PlanBlock b) xs)
+    omega (arith, left, both, own, count_by-le-length (is_own plan k) b.events, items-weigh plan k here (n + 1) xs, weight-cons plan.budget (PlanBlock b) xs)
 
 -- an event before others whose items are counted
 one-plays : (own played : Bool) (e : Event) (events : List Event) → plays e.act ≡ played →
@@ -89,15 +109,15 @@ own-play plan k (e ∷ es) =
     )
 
 -- A part's items that play are as many as its controller's log may have entries.
-pub items-most : (plan : Plan) (k : ℕ) (body : List PlanStmt) → count_by plays_item (items_left (map (part_stmt plan k) body) 0) ≡ sum (map (most_in plan k) body)
-items-most plan k [] = refl
-items-most plan k (PlanBlock b ∷ xs) =
+pub items-most : (plan : Plan) (k : ℕ) (here : Place) (n : ℕ) (body : List PlanStmt) → count_by plays_item (items_left (part_from plan k here n body) 0) ≡ sum (map (most_in plan k) body)
+items-most plan k here n [] = refl
+items-most plan k here n (PlanBlock b ∷ xs) =
     omega (
       arith,
-      ap (count_by plays_item) (items-block b.length (items_of plan k b.events) (map (part_stmt plan k) xs)),
-      sum_by-append (λ i. cond (plays_item i) 1 0) (items_of plan k b.events) (items_left (map (part_stmt plan k) xs) 0),
+      ap (count_by plays_item) (items-block b.length (items_of plan k b.events) (part_from plan k here (n + 1) xs)),
+      sum_by-append (λ i. cond (plays_item i) 1 0) (items_of plan k b.events) (items_left (part_from plan k here (n + 1) xs) 0),
       own-play plan k b.events,
-      items-most plan k xs,
+      items-most plan k here (n + 1) xs,
       sum_by-cons (λ n. n) (most_in plan k (PlanBlock b)) (map (most_in plan k) xs),
     )
 
@@ -117,16 +137,52 @@ pub all-play : (items : List Item) → count_by plays_item items ≡ length item
 all-play [] = refl
 all-play (item ∷ items) = omega (arith, count-plays item items, all-play items)
 
+-- the items of a plan's part are as many as its log may have entries
+pub items-room : (plan : Plan) (k : ℕ) → length (items_left (part_of plan k).body 0) ≡ most plan k
+items-room plan k = sym (all-play (items_left (part_of plan k).body 0)) ∙ items-most plan k [] 0 plan.body
+
+-- no list of acts makes more entries than it has acts
+one-entry : (o : Option Played) (log : List Played) → length (cons_option o log) ≤ 1 + length log
+one-entry None log = omega arith
+one-entry (Some p) log = omega arith
+
+log-short : (acts : List Act) → length (log_of acts) ≤ length acts
+log-short [] = omega arith
+log-short (a ∷ acts) = omega (arith, one-entry (played_by a) (log_of acts), log-short acts)
+
+length-part : (k : ℕ) (frames : List FrameState) (tick : ℕ) (body : List PartStmt) → length (part_acts k frames tick body) ≡ length (items_left body 0)
+length-part k frames tick [] = refl
+length-part k frames tick (Block ticks items ∷ rest) =
+    omega (
+      arith,
+      length-append (map (item_act k frames tick) items) (part_acts k frames (tick + ticks) rest),
+      length-map items (item_act k frames tick),
+      length-append items (items_left rest 0),
+      length-part k frames (tick + ticks) rest,
+    )
+length-part k frames tick (Wait ticks ∷ rest) = length-part k frames (tick + ticks) rest
+
+-- A log has room for all that its controller plays.
+pub log-room : (plan : Plan) (tape : Tape) (k : ℕ) → length (log_of (planned_acts plan tape k)) ≤ most plan k
+log-room plan tape k =
+    omega (
+      arith,
+      log-short (planned_acts plan tape k),
+      ap length (acts-planned plan tape k),
+      length-part k (start_frames plan.frames) 0 (part_of plan k).body,
+      items-room plan k,
+    )
+
 length-events : (frames : List FrameState) (here : Place) (n tick : ℕ) (events : List Event) → length (event_entries frames here n tick events) ≡ length events
 length-events frames here n tick [] = refl
 length-events frames here n tick (e ∷ es) = ap (λ m. suc m) (length-events frames here (n + 1) tick es)
 
-stmt-entries-few : (frames : List FrameState) (here : Place) (tick : ℕ) (x : PlanStmt) → length (stmt_entries frames here tick x) ≤ weight_in x
-stmt-entries-few frames here tick (PlanBlock b) = omega (arith, length-events frames here 0 tick b.events)
+stmt-entries-few : (budget : ℕ) (frames : List FrameState) (here : Place) (tick : ℕ) (x : PlanStmt) → length (stmt_entries frames here tick x) ≤ weight_in budget x
+stmt-entries-few budget frames here tick (PlanBlock b) = omega (arith, length-events frames here 0 tick b.events)
 
-entries-few : (frames : List FrameState) (here : Place) (n tick : ℕ) (body : List PlanStmt) → length (entries_of frames here n tick body) ≤ weight_of body
-entries-few frames here n tick [] = omega arith
-entries-few frames here n tick (x ∷ xs) = rw length-append (omega (arith, weight-cons x xs, stmt-entries-few frames (n ∷ here) tick x, entries-few frames here (n + 1) (tick + length_in x) xs))
+entries-few : (budget : ℕ) (frames : List FrameState) (here : Place) (n tick : ℕ) (body : List PlanStmt) → length (entries_of frames here n tick body) ≤ weight_all budget body
+entries-few budget frames here n tick [] = omega arith
+entries-few budget frames here n tick (x ∷ xs) = rw length-append (omega (arith, weight-cons budget x xs, stmt-entries-few budget frames (n ∷ here) tick x, entries-few budget frames here (n + 1) (tick + length_in x) xs))
 
 acts-one : (plan : Plan) (e : Entry) (what : Happening) → length (acts_by plan e what) ≡ 1
 acts-one plan e (Pulsed port wave phase hz) = refl
@@ -136,18 +192,8 @@ length-acts plan [] = refl
 length-acts plan (e ∷ es) = rw length-append (omega (arith, acts-one plan e e.what, length-acts plan es))
 
 -- A controller's acts are at most what a plan weighs.
-pub acts-weigh : (plan : Plan) (tape : Tape) (k : ℕ) → length (planned_acts plan tape k) ≤ weight_of plan.body
+pub acts-weigh : ActsAreFew
 acts-weigh plan tape k =
     let own = length-filter (λ a. nat_eq (actor a) k) (all_acts plan (run_of plan tape).trace) in
     let some = count_by-le-length (λ a. nat_eq (actor a) k) (all_acts plan (run_of plan tape).trace) in
-    omega (arith, own, some, length-acts plan (run_of plan tape).trace, ap length (run-trace plan tape), entries-few (start_frames plan.frames) [] 0 0 plan.body)
-
--- In a sound plan they are at most 2^20.
-pub acts-few : (plan : Plan) (tape : Tape) (k : ℕ) → IsSound plan → length (planned_acts plan tape k) ≤ 1048576
-acts-few plan tape k sound = omega (arith, acts-weigh plan tape k, sound.weight)
-
--- Those of n controllers together are at most n times as many.
-pub acts-sum : (plan : Plan) (tape : Tape) (n k : ℕ) → IsSound plan → sum (map (λ k. length (planned_acts plan tape k)) (range_with_len k n)) ≤ 1048576 * n
-acts-sum plan tape zero k sound = omega arith
-acts-sum plan tape (suc n) k sound =
-    omega (arith, sum_by-cons (λ n. n) (length (planned_acts plan tape k)) (map (λ k. length (planned_acts plan tape k)) (range_with_len (k + 1) n)), acts-few plan tape k sound, acts-sum plan tape n (k + 1) sound)
+    omega (arith, own, some, length-acts plan (run_of plan tape).trace, ap length (run-trace plan tape), entries-few plan.budget (start_frames plan.frames) [] 0 0 plan.body)

@@ -1,13 +1,12 @@
 -- The timeline of a run is the logs of all controllers, in another order.
 use Rattle.std.proofs.Common.{◌≡◌, ◌≢◌, ℕ, ◌+◌, ◌<◌, ◌≤◌, List, [], ◌∷◌, ◌++◌, refl, ap, arith, ◌∙◌, subst, cond, true, false, get_or}
-use Rattle.std.specs.Prelude.{Bool, Option, Some, None, All, filter, not, nat_eq, zero, suc}
+use Rattle.std.specs.Prelude.{Bool, Option, Some, None, All, filter, map, not, nat_eq, zero, suc}
 use Rattle.std.specs.List.{flat_map, cons_option, range_with_len}
 use Rattle.std.specs.List.Sorted.{IsPermutation}
 use Rattle.std.proofs.lemmas.Bool.Decides.{nat_tests}
 use Rattle.std.proofs.lemmas.List.Concat.{flat_map-append}
 use Rattle.std.proofs.lemmas.List.Elements.{All-nil, All-cons, All-head, All-tail, All-append, All-filter, All-same, filter_passes}
 use Rattle.std.proofs.lemmas.List.Sorted.{IsPermutation-refl, IsPermutation-sym, IsPermutation-trans, IsPermutation-cons, IsPermutation-middle, IsPermutation-append_right}
-use Rattle.qs_values.specs.declared.tape.Tape.{Tape}
 use Rattle.plan_tree.specs.declared.frame.FrameState.{FrameState}
 use Rattle.plan_tree.specs.declared.plan.Plan.{Plan}
 use Rattle.plan_tree.specs.declared.plan.Event.{Event}
@@ -19,17 +18,18 @@ use Rattle.plan_tree.specs.Run.{Place, Entry, Happening, Pulsed, start_frames, r
 use Rattle.plan_tree.specs.Acts.{Act, actor, acts_by, acts_in, all_acts, acts_of, planned_acts}
 use Rattle.plan_tree.specs.Sound.{IsSound, IsSoundEvent, IsSoundStmt}
 use Rattle.controller_machine.specs.declared.ctl.Played.{Played}
+use Rattle.controller_machine.specs.Laws.{LogsAreTheTimeline}
 use Rattle.controller_machine.specs.Log.{played_at, played_by, log_of, timeline_of}
 use Rattle.controller_machine.proofs.Entries.{entry_of, event_entries, stmt_entries, entries_of, length_in, run-trace}
 
 -- what an entry's acts play, before what others play
-entry-log : (plan : Plan) (e : Entry) (what : Happening) (rest : List Act) → e.what ≡ what → log_of (acts_by plan e what ++ rest) ≡ cons_option (played_at e.tick what) (log_of rest)
-entry-log plan e (Pulsed port wave phase hz) rest same = ap (λ w. cons_option (played_at e.tick w) (log_of rest)) same
+entry-log : (plan : Plan) (e : Entry) (what : Happening) (rest : List Act) → log_of (acts_by plan e what ++ rest) ≡ cons_option (played_at e.tick e.what) (log_of rest)
+entry-log plan e (Pulsed port wave phase hz) rest = refl
 
 -- What all acts play is the timeline.
 pub all-log : (plan : Plan) (trace : List Entry) → log_of (all_acts plan trace) ≡ timeline_of trace
 all-log plan [] = refl
-all-log plan (e ∷ es) = entry-log plan e e.what (all_acts plan es) refl ∙ ap (cons_option (played_at e.tick e.what)) (all-log plan es)
+all-log plan (e ∷ es) = entry-log plan e e.what (all_acts plan es) ∙ ap (cons_option (played_at e.tick e.what)) (all-log plan es)
 
 cons-left : (o : Option Played) (xs ys zs : List Played) → IsPermutation xs (ys ++ zs) → IsPermutation (cons_option o xs) (cons_option o ys ++ zs)
 cons-left None xs ys zs h = h
@@ -103,21 +103,28 @@ events-below plan frames here n ticks tick (e ∷ es) sound all =
     All-append (IsBelow plan) _ _ (entry-below plan frames (n ∷ here) ticks tick e e.act sound (All-head (IsSoundEvent plan ticks) e es all))
     (events-below plan frames here (n + 1) ticks tick es sound (All-tail (IsSoundEvent plan ticks) e es all))
 
-stmt-below : (plan : Plan) (frames : List FrameState) (here : Place) (tick : ℕ) (x : PlanStmt) → IsSound plan → IsSoundStmt plan x → All (IsBelow plan) (all_acts plan (stmt_entries frames here tick x))
+stmt-below : (plan : Plan) (frames : List FrameState) (here : Place) (tick : ℕ) (x : PlanStmt) → IsSound plan → IsSoundStmt plan false x → All (IsBelow plan) (all_acts plan (stmt_entries frames here tick x))
 stmt-below plan frames here tick (PlanBlock b) sound stmt = events-below plan frames here 0 b.length tick b.events sound stmt.events
 
-body-below : (plan : Plan) (frames : List FrameState) (here : Place) (n tick : ℕ) (body : List PlanStmt) → IsSound plan → All (IsSoundStmt plan) body → All (IsBelow plan) (all_acts plan (entries_of frames here n tick body))
+body-below : (plan : Plan) (frames : List FrameState) (here : Place) (n tick : ℕ) (body : List PlanStmt) → IsSound plan → All (IsSoundStmt plan false) body → All (IsBelow plan) (all_acts plan (entries_of frames here n tick body))
 body-below plan frames here n tick [] sound all = All-nil (IsBelow plan)
 body-below plan frames here n tick (x ∷ xs) sound all =
     All-same (IsBelow plan) _ _ (flat_map-append (acts_in plan) (stmt_entries frames (n ∷ here) tick x) (entries_of frames here (n + 1) (tick + length_in x) xs))
-    (All-append (IsBelow plan) _ _ (stmt-below plan frames (n ∷ here) tick x sound (All-head (IsSoundStmt plan) x xs all))
-    (body-below plan frames here (n + 1) (tick + length_in x) xs sound (All-tail (IsSoundStmt plan) x xs all)))
+    (All-append (IsBelow plan) _ _ (stmt-below plan frames (n ∷ here) tick x sound (All-head (IsSoundStmt plan false) x xs all))
+    (body-below plan frames here (n + 1) (tick + length_in x) xs sound (All-tail (IsSoundStmt plan false) x xs all)))
+
+-- the logs of numbers, one after another
+flat-logs : (f : ℕ → List Played) (ks : List ℕ) → flat_map f ks ≡ flat_map (λ log. log) (map f ks)
+flat-logs f [] = refl
+flat-logs f (k ∷ ks) = ap (λ logs. f k ++ logs) (flat-logs f ks)
 
 -- Each pulse of the run is in the log of one controller.
-pub timeline-logs : (plan : Plan) (tape : Tape) → IsSound plan →
-    IsPermutation (timeline_of (run_of plan tape).trace) (flat_map (λ k. log_of (planned_acts plan tape k)) (range_with_len 0 plan.controllers))
+pub timeline-logs : LogsAreTheTimeline
 timeline-logs plan tape sound =
     let below = body-below plan (start_frames plan.frames) [] 0 0 plan.body sound sound.body in
     let all : All (IsBelow plan) (all_acts plan (run_of plan tape).trace) = All-same (IsBelow plan) _ _ (ap (all_acts plan) (run-trace plan tape)) below in
-    subst (λ xs. IsPermutation xs (flat_map (λ k. log_of (planned_acts plan tape k)) (range_with_len 0 plan.controllers))) (all-log plan (run_of plan tape).trace)
-    (regroup plan.controllers 0 (all_acts plan (run_of plan tape).trace) all)
+    let logs : ℕ → List Played = λ k. log_of (planned_acts plan tape k) in
+    let controllers : List ℕ = range_with_len 0 plan.controllers in
+    subst (IsPermutation (timeline_of (run_of plan tape).trace)) (flat-logs logs controllers)
+    (subst (λ xs. IsPermutation xs (flat_map logs controllers)) (all-log plan (run_of plan tape).trace)
+    (regroup plan.controllers 0 (all_acts plan (run_of plan tape).trace) all))

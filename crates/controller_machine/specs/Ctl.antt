@@ -1,5 +1,5 @@
--- One controller in its part: where it stands, and one act. This project's own.
-use Rattle.std.specs.Prelude.{ℕ, ◌+◌, ◌-◌, ◌<◌, ◌≤◌, ◌^◌, List, [], ◌∷◌, ◌++◌, length, map, sum, drop, slice_get, All, count_by, Option, Some, None, Bool, ◌&&◌, nat_lt, if◌then◌else◌, zero, suc}
+-- One controller in its part, act by act. This project's own.
+use Rattle.std.specs.Prelude.{ℕ, ◌+◌, ◌-◌, List, [], ◌∷◌, ◌++◌, map, sum, replicate, count_by, Option, Some, None, ◌&&◌, if◌then◌else◌, zero, suc}
 use Rattle.qs_values.specs.declared.tape.Tape.{Tape}
 use Rattle.plan_tree.specs.declared.frame.FrameState.{FrameState}
 use Rattle.plan_tree.specs.declared.plan.Plan.{Plan}
@@ -10,67 +10,63 @@ use Rattle.plan_tree.specs.declared.plan.PlanStmt.{PlanStmt}
 use Rattle.plan_tree.specs.declared.plan.PlanStmt.TheVariants.{Block as PlanBlock}
 use Rattle.plan_tree.specs.declared.part.Item.{Item}
 use Rattle.plan_tree.specs.declared.part.Item.TheVariants.{Own}
-use Rattle.plan_tree.specs.declared.part.PartStmt.{PartStmt}
-use Rattle.plan_tree.specs.declared.part.PartStmt.TheVariants.{Block, Wait}
+use Rattle.plan_tree.specs.declared.part.Part.{Part}
 use Rattle.plan_tree.specs.Store.{start_store}
 use Rattle.plan_tree.specs.Deeds.{plays}
-use Rattle.plan_tree.specs.Run.{frame_at, start_frames}
+use Rattle.plan_tree.specs.Run.{frame_at, most_qubits, start_frames}
 use Rattle.plan_tree.specs.Parts.{is_own, part_of}
 use Rattle.controller_machine.specs.declared.ctl.Played.{Played}
-use Rattle.controller_machine.specs.declared.ctl.Ending.{Ending}
-use Rattle.controller_machine.specs.declared.ctl.Ending.TheVariants.{Going, Done}
 use Rattle.controller_machine.specs.declared.ctl.Want.{Want}
 use Rattle.controller_machine.specs.declared.ctl.Want.TheVariants.{Go, Ended}
+use Rattle.controller_machine.specs.declared.stand.Ending.{Ending}
+use Rattle.controller_machine.specs.declared.stand.Ending.TheVariants.{Going}
+use Rattle.controller_machine.specs.declared.stand.Spot.{Spot}
+use Rattle.controller_machine.specs.declared.stand.Stand.{Stand}
+use Rattle.controller_machine.specs.declared.stand.Stand.TheVariants.{At, Over}
+use Rattle.controller_machine.specs.Alone.{Shown}
+use Rattle.controller_machine.specs.steps.Place.{item_at, item_of, stand_after, stand_from}
 
--- a place in a part: the statement, the item in it, and the tick at which the statement begins
-pub record Spot : Type 0 where
-  pub statement : ℕ
-  pub item : ℕ
-  pub tick : ℕ
-
--- a controller: where its next act stands, its variables and frames, what it has played, and how many entries its log has room for
+-- a controller: the part that it was made with, where it stands in it, its variables and frames, how many bits each qubit's captures have used, what it has played, and how many entries its log has room for
 pub record CtlState : Type 0 where
-  pub spot : Spot
+  pub part : Part
+  pub stand : Stand
   pub store : List ℕ
   pub frames : List FrameState
+  pub captured : List ℕ
   pub log : List Played
-  pub ending : Ending
   pub room : ℕ
 
--- the first spot with an item, from this one on: waits and the ends of blocks are passed over
-abbrev pub settled : List PartStmt → ℕ → ℕ → ℕ → Spot
-settled [] s i t = record { statement = s; item = i; tick = t }
-settled (Block ticks items ∷ rest) s i t =
-    if nat_lt i (length items) then record { statement = s; item = i; tick = t } else settled rest (s + 1) 0 (t + ticks)
-settled (Wait ticks ∷ rest) s i t = settled rest (s + 1) 0 (t + ticks)
+-- the tick at which the statement of the next act begins, or at which the run ended
+abbrev pub tick_in : Stand → ℕ
+tick_in (At spot) = spot.tick
+tick_in (Over ending tick) = tick
 
--- the item of this number in a statement
-abbrev pub item_in : ℕ → Option PartStmt → Option Item
-item_in i None = None
-item_in i (Some (Block ticks items)) = slice_get items i
-item_in i (Some (Wait ticks)) = None
+-- whether and how the run has ended
+abbrev pub ending_in : Stand → Ending
+ending_in (At spot) = Going
+ending_in (Over ending tick) = ending
 
--- the item at a spot
-abbrev pub item_at : List PartStmt → Spot → Option Item
-item_at body spot = item_in spot.item (slice_get body spot.statement)
+-- what a controller shows
+abbrev pub shown_of : CtlState → Shown
+shown_of c = record { store = c.store; frames = c.frames; captured = c.captured; log = c.log; tick = tick_in c.stand; ending = ending_in c.stand }
 
 -- what a controller wants that stands before this item, or at its end
-abbrev pub want_by : Option Item → Want
-want_by None = Ended
-want_by (Some item) = Go
+abbrev pub want_at : Option Item → Want
+want_at None = Ended
+want_at (Some (Own e)) = Go
 
 -- what a controller wants to do next
-abbrev pub want_of : List PartStmt → CtlState → Want
-want_of body c = want_by (item_at body c.spot)
+abbrev pub want_of : CtlState → Want
+want_of c = want_at (item_of c.part.body c.stand)
 
--- whether a run goes on, by what its controller wants
-abbrev pub ending_by : Want → Ending
-ending_by Go = Going
-ending_by Ended = Done
+-- how many entries an item makes in the log
+abbrev pub entries_at : Option Item → ℕ
+entries_at None = 0
+entries_at (Some (Own e)) = if plays e.act then 1 else 0
 
--- a controller that stands at a spot
-abbrev pub at_spot : List PartStmt → CtlState → Spot → CtlState
-at_spot body c spot = record c { spot = spot; ending = ending_by (want_by (item_at body spot)) }
+-- how many entries the next act makes in the log
+abbrev pub entries_next : CtlState → ℕ
+entries_next c = entries_at (item_of c.part.body c.stand)
 
 -- what an event of a block that began at this tick plays
 abbrev pub played_of : List FrameState → ℕ → Event → Deed → Played
@@ -83,26 +79,27 @@ played_of frames tick e (Pulse f w) = record {
   bit = None;
 }
 
--- a controller that has done a deed of its own
-abbrev pub with_deed : CtlState → Event → Deed → CtlState
-with_deed c e (Pulse f w) = record c { log = c.log ++ played_of c.frames c.spot.tick e (Pulse f w) ∷ []; room = c.room - 1 }
+-- a controller that has done a deed of its own, of a block that began at this tick
+abbrev pub with_deed : CtlState → ℕ → Event → Deed → CtlState
+with_deed c tick e (Pulse f w) = record c { log = c.log ++ played_of c.frames tick e (Pulse f w) ∷ []; room = c.room - 1 }
 
 -- a controller that has done this item
-abbrev pub with_item : CtlState → Item → CtlState
-with_item c (Own e) = with_deed c e e.act
-
--- the first spot with an item behind this one
-abbrev pub behind : List PartStmt → Spot → Spot
-behind body spot = settled (drop spot.statement body) spot.statement (spot.item + 1) spot.tick
+abbrev pub with_item : CtlState → ℕ → Item → CtlState
+with_item c tick (Own e) = with_deed c tick e e.act
 
 -- a controller after an item at its spot
-abbrev pub after_item : List PartStmt → CtlState → Option Item → CtlState
-after_item body c None = c
-after_item body c (Some item) = at_spot body (with_item c item) (behind body c.spot)
+abbrev pub after_item : CtlState → Spot → Option Item → CtlState
+after_item c spot None = c
+after_item c spot (Some item) = record (with_item c spot.tick item) { stand = stand_after c.part.body spot }
+
+-- a controller after its next act, by where it stands
+abbrev pub after_stand : CtlState → Stand → CtlState
+after_stand c (At spot) = after_item c spot (item_at c.part.body spot)
+after_stand c (Over ending tick) = c
 
 -- a controller after its next act, where it has one
-abbrev pub after_act : List PartStmt → CtlState → CtlState
-after_act body c = after_item body c (item_at body c.spot)
+abbrev pub after_act : CtlState → CtlState
+after_act c = after_stand c c.stand
 
 -- how many events of a statement are on ports of a controller and play
 abbrev pub most_in : Plan → ℕ → PlanStmt → ℕ
@@ -114,42 +111,17 @@ most plan k = sum (map (most_in plan k) plan.body)
 
 -- a controller at the start
 abbrev pub start_ctl : Plan → Tape → ℕ → CtlState
-start_ctl plan tape k = at_spot (part_of plan k).body (record {
-  spot = record { statement = 0; item = 0; tick = 0 };
+start_ctl plan tape k = record {
+  part = part_of plan k;
+  stand = stand_from (part_of plan k).body 0 0 0;
   store = start_store plan.vars plan.inputs tape.inputs;
   frames = start_frames plan.frames;
+  captured = replicate most_qubits 0;
   log = [];
-  ending = Going;
   room = most plan k;
-}) (settled (part_of plan k).body 0 0 0)
+}
 
 -- the state after n acts
 abbrev pub state_after : Plan → Tape → ℕ → ℕ → CtlState
 state_after plan tape k zero = start_ctl plan tape k
-state_after plan tape k (suc n) = after_act (part_of plan k).body (state_after plan tape k n)
-
--- the ticks that statements take
-abbrev pub ticks_of : List PartStmt → ℕ
-ticks_of [] = 0
-ticks_of (Block ticks items ∷ rest) = ticks + ticks_of rest
-ticks_of (Wait ticks ∷ rest) = ticks + ticks_of rest
-
--- the items that are left, from this item of the first statement on
-abbrev pub items_left : List PartStmt → ℕ → List Item
-items_left [] i = []
-items_left (Block ticks items ∷ rest) i = drop i items ++ items_left rest 0
-items_left (Wait ticks ∷ rest) i = items_left rest 0
-
--- whether an item plays, so that it needs room in the log
-abbrev pub plays_item : Item → Bool
-plays_item (Own e) = plays e.act
-
--- An item is near its block's beginning.
-abbrev pub IsNear : Item → Type 0
-IsNear (Own e) = e.offset ≤ 2 ^ 40
-
--- A controller stands where this part leads to: it has room for all that is left to play, and time for all that is left.
-pub record IsOn (body : List PartStmt) (c : CtlState) : Type 0 where
-  pub time : c.spot.tick + ticks_of (drop c.spot.statement body) < 2 ^ 61
-  pub near : All IsNear (items_left (drop c.spot.statement body) c.spot.item)
-  pub room : count_by plays_item (items_left (drop c.spot.statement body) c.spot.item) ≤ c.room
+state_after plan tape k (suc n) = after_act (state_after plan tape k n)

@@ -1,3 +1,6 @@
 pub mod Log
+pub mod Alone
+pub mod steps
 pub mod Ctl
 pub mod Last
+pub mod Laws

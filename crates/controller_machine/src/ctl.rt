@@ -1,15 +1,19 @@
-ghost use Rattle.std.specs.Prelude.{◌≡◌, ◌<◌, ◌≤◌, ◌^◌, IfOk, slice_get};
+ghost use Rattle.std.specs.Prelude.{◌≡◌, ◌<◌, ◌≤◌, ◌^◌, IfOk};
 ghost use Rattle.plan_tree.specs.Parts.{part_of};
 ghost use Rattle.plan_tree.specs.Run.{frame_at as frame_of};
 ghost use Rattle.plan_tree.specs.Sound.{Fits, IsSound};
-ghost use Rattle.controller_machine.specs.Ctl.{IsOn, after_act, ending_by, item_in, start_ctl, want_by, want_of, with_deed};
+ghost use Rattle.controller_machine.specs.Ctl.{after_act, entries_next, shown_of, start_ctl, want_of, with_deed};
 
-use crate::spot::{Spot, items_in};
+use crate::stand::{Ending, Spot, Stand, items_in};
 use crate::store::{start_frames, start_store};
-use plan_tree::{Deed, Event, FrameState, Item, Part, PartStmt, Plan};
+use plan_tree::{Deed, Event, FrameState, Item, Part, Plan};
 use qs_values::{Memory, Tape};
 use std::alloc::Global;
 use std::marker::Model;
+use std::snapshot::Snapshot;
+
+/// How many qubits a machine has at most.
+const MOST_QUBITS: usize = 32;
 
 /// A pulse or capture as it was played: its tick, the numbers of its port and waveform, its frame's
 /// phase in 2^32-ths of a full turn and frequency in Hz, and a capture's bit.
@@ -23,15 +27,6 @@ pub struct Played {
     pub bit: Option<u8>,
 }
 
-/// How a controller's run has ended, if it has.
-#[derive(Clone, Copy, Debug, PartialEq, Eq)]
-pub enum Ending {
-    /// It has not: an act is left.
-    Going,
-    /// It has come to the end of its part.
-    Done,
-}
-
 /// What a controller's next act is.
 #[derive(Clone, Copy, Debug, PartialEq, Eq)]
 pub enum Want {
@@ -41,14 +36,15 @@ pub enum Want {
     Ended,
 }
 
-/// One controller: its place in its part, its variables, its frames and its log.
+/// One controller: where it stands in its part, its variables, its frames and its log.
 #[derive(Drop)]
 pub struct Ctl {
-    spot: Spot,
+    part: Snapshot<Part>,
+    stand: Stand,
     store: Vec<u64>,
     frames: Vec<FrameState>,
+    captured: [u32; MOST_QUBITS],
     log: Vec<Played>,
-    ending: Ending,
     room: u64,
 }
 
@@ -56,12 +52,22 @@ impl Model for Ctl {
     ghost use Rattle.std.specs.Prelude.{◌+◌, ◌≤◌, vec_len};
     ghost use Rattle.std.specs.Vec.{vec_capacity};
     ghost use Rattle.controller_machine.specs.Ctl.{CtlState};
+    ghost use Rattle.controller_machine.specs.steps.Left.{IsInTime};
 
     ghost Value = { CtlState };
 
-    ghost view = { λ c. record { spot = record { statement = c.spot.statement; item = c.spot.item; tick = c.spot.tick }; store = c.store.items; frames = c.frames.items; log = c.log.items; ending = c.ending; room = c.room } };
+    ghost view = { λ c. record {
+      part = c.part.value;
+      stand = c.stand;
+      store = c.store.items;
+      frames = c.frames.items;
+      captured = c.captured;
+      log = c.log.items;
+      room = c.room;
+    } };
 
-    ghost invariant = { λ c. vec_len c.log + c.room ≤ vec_capacity c.log };
+    ghost invariant = { λ c. (vec_len c.log + c.room ≤ vec_capacity c.log)
+        × IsInTime c.part.value.body c.stand };
 }
 
 impl Ctl {
@@ -69,14 +75,13 @@ impl Ctl {
     ///
     /// # Errors
     ///
-    /// `Memory` for want of memory.
+    /// `Memory` when out of memory.
     pub fn new(alloc: Global, part: &Part, plan: &Plan, tape: &Tape) -> Result<Ctl, Memory>
         requires sound { IsSound plan.now }
         requires fits { Fits plan.now tape.now }
         requires controller { part.now.controller < plan.now.controllers }
         requires part { part.now ≡ part_of plan.now part.now.controller }
-        ensures start { IfOk result (λ c. c ≡ start_ctl plan.now tape.now part.now.controller) }
-        ensures on { IfOk result (IsOn part.now.body) }
+        ensures { IfOk result (λ c. c ≡ start_ctl plan.now tape.now part.now.controller) }
     {
         let body = part.body.as_slice();
         let room = items_in(body);
@@ -93,57 +98,67 @@ impl Ctl {
             item: 0,
             tick: 0,
         };
-        let spot = start.settle(body);
+        let stand = start.stand(body);
         Ok(Ctl {
-            spot,
+            part: Snapshot::of(part),
+            stand,
             store,
             frames,
+            captured: [0; MOST_QUBITS],
             log,
-            ending: ending_of(want_at(body, spot)),
             room,
         })
     }
 
-    /// What the next act is.
+    /// What the next act is. It is lent the part with which the controller was made.
     pub fn next(&self, part: &Part) -> Want
-        ensures { result ≡ want_of part.now.body self.now }
+        requires { part.now ≡ self.now.part }
+        ensures { result ≡ want_of self.now }
     {
-        want_at(part.body.as_slice(), self.spot)
-    }
-
-    /// Makes the next act, which touches no mailbox.
-    pub fn go(&mut self, part: &Part)
-        requires on { IsOn part.now.body self.old }
-        requires next { want_of part.now.body self.old ≡ Want.Go }
-        ensures act { self.new ≡ after_act part.now.body self.old }
-        ensures on { IsOn part.now.body self.new }
-    {
-        let body = part.body.as_slice();
-        if let Some(item) = self.spot.item(body) {
-            match item {
-                Item::Own(event) => self.play(event),
-            }
-            let next = Spot {
-                item: self.spot.item + 1,
-                ..self.spot
-            };
-            self.spot = next.settle(body);
-            self.ending = ending_of(want_at(body, self.spot));
+        match self.stand {
+            Stand::At(spot) => match spot.item(part.body.as_slice()) {
+                Some(Item::Own(_)) => Want::Go,
+                None => Want::Ended,
+            },
+            Stand::Over(_, _) => Want::Ended,
         }
     }
 
-    /// Logs what an event of its own plays.
-    fn play(&mut self, event: &Event)
+    /// Makes the next act, which touches no mailbox. It is lent the part with which the controller
+    /// was made.
+    pub fn go(&mut self, part: &Part)
+        requires part { part.now ≡ self.old.part }
+        requires next { want_of self.old ≡ Want.Go }
+        requires room { entries_next self.old ≤ self.old.room }
+        ensures { self.new ≡ after_act self.old }
+    {
+        let body = part.body.as_slice();
+        if let Stand::At(spot) = self.stand {
+            if let Some(item) = spot.item(body) {
+                match item {
+                    Item::Own(event) => self.play(spot.tick, event),
+                }
+                let next = Spot {
+                    item: spot.item + 1,
+                    ..spot
+                };
+                self.stand = next.stand(body);
+            }
+        }
+    }
+
+    /// Logs what an event of its own plays, whose block began at this tick.
+    fn play(&mut self, tick: u64, event: &Event)
         requires room { 0 < self.old.room }
-        requires tick { self.old.spot.tick < 2 ^ 61 }
+        requires tick { tick < 2 ^ 61 }
         requires near { event.now.offset ≤ 2 ^ 40 }
-        ensures { self.new ≡ with_deed self.old event.now event.now.act }
+        ensures { self.new ≡ with_deed self.old tick event.now event.now.act }
     {
         let played = match event.act {
             Deed::Pulse { frame, wave } => {
                 let frame = frame_at(self.frames.as_slice(), frame);
                 Played {
-                    tick: self.spot.tick + event.offset,
+                    tick: tick + event.offset,
                     port: event.port,
                     wave,
                     phase: frame.phase,
@@ -157,7 +172,7 @@ impl Ctl {
     }
 
     /// What was played, in the order in which it was played. That is the order of tick and then of
-    /// port where each act was one of the controller's own part of a sound plan.
+    /// port.
     pub fn log(&self) -> &[Played]
         ensures { result.now ≡ self.now.log }
     {
@@ -173,16 +188,22 @@ impl Ctl {
 
     /// The tick at which the statement of the next act begins, or at which the run ended.
     pub fn tick(&self) -> u64
-        ensures { result ≡ self.now.spot.tick }
+        ensures { result ≡ (shown_of self.now).tick }
     {
-        self.spot.tick
+        match self.stand {
+            Stand::At(spot) => spot.tick,
+            Stand::Over(_, tick) => tick,
+        }
     }
 
     /// Whether the run has ended, and how.
     pub fn ending(&self) -> Ending
-        ensures { result ≡ self.now.ending }
+        ensures { result ≡ (shown_of self.now).ending }
     {
-        self.ending
+        match self.stand {
+            Stand::At(_) => Ending::Going,
+            Stand::Over(ending, _) => ending,
+        }
     }
 }
 
@@ -193,25 +214,5 @@ fn frame_at(frames: &[FrameState], number: u16) -> FrameState
     match frames.get(number as usize) {
         Some(frame) => *frame,
         None => FrameState { phase: 0, hz: 0 },
-    }
-}
-
-/// What a controller at this spot wants to do next.
-fn want_at(body: &[PartStmt], spot: Spot) -> Want
-    ensures { result ≡ want_by (item_in spot.item (slice_get body.now spot.statement)) }
-{
-    match spot.item(body) {
-        Some(Item::Own(_)) => Want::Go,
-        None => Want::Ended,
-    }
-}
-
-/// How a controller's run has ended, by what it wants next.
-fn ending_of(want: Want) -> Ending
-    ensures { result ≡ ending_by want }
-{
-    match want {
-        Want::Go => Ending::Going,
-        Want::Ended => Ending::Done,
     }
 }

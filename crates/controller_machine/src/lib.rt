@@ -1,12 +1,17 @@
-//! One controller in its part: its place, its variables, its frames and its log, one act at a time.
+//! One controller in its part: where it stands, its variables, its frames and its log, one act at a
+//! time.
 #![tactic(auto)]
 
 mod ctl;
 mod ctls;
 mod laws;
-mod spot;
+mod stand;
 mod store;
 
-pub use ctl::{Ctl, Ending, Played, Want};
+pub use ctl::{Ctl, Played, Want};
 pub use ctls::Ctls;
-pub use laws::logs_stand_in_order;
+pub use laws::{
+    acts_are_few, controllers_follow, controllers_walk, logs_are_the_timeline, logs_stand_in_order,
+    plays_are_events,
+};
+pub use stand::Ending;

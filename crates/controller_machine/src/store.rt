@@ -11,7 +11,7 @@ use std::alloc::Global;
 ///
 /// # Errors
 ///
-/// `Memory` for want of memory.
+/// `Memory` when out of memory.
 pub fn start_store(
     alloc: Global,
     vars: &[Ty],
@@ -31,7 +31,8 @@ pub fn start_store(
 /// Puts an input's value into its variables, a register's bit by bit.
 fn put_input(store: &mut Vec<u64>, input: &Input, value: u64)
     requires { input.now.first + size_of input.now.ty.kind input.now.ty.width ≤ length store.old.items }
-    ensures { store.new.items ≡ put_cells store.old.items input.now.first (cells_of input.now.ty.kind input.now.ty.width value) }
+    ensures { store.new.items ≡ put_cells store.old.items input.now.first
+        (cells_of input.now.ty.kind input.now.ty.width value) }
 {
     let first = input.first as usize;
     match input.ty.kind {
@@ -56,7 +57,7 @@ fn put_bits(store: &mut Vec<u64>, first: usize, width: u8, value: u64)
 ///
 /// # Errors
 ///
-/// `Memory` for want of memory.
+/// `Memory` when out of memory.
 pub fn start_frames(alloc: Global, frames: &[FrameStart]) -> Result<Vec<FrameState>, Memory>
     ensures { IfOk result (λ v. v.items ≡ start_frames_of frames.now) }
 {

@@ -1,33 +1,37 @@
 -- What the definitions say of the worked example: its run, its acts and its parts, that it is sound, and what is not.
-use Rattle.std.proofs.Common.{◌≡◌, ℕ, ◌+◌, ◌<◌, [], ◌∷◌, ap, refl, arith, inl, zero, suc, true, map}
+use Rattle.std.proofs.Common.{◌≡◌, ℕ, ◌+◌, ◌<◌, [], ◌∷◌, ap, refl, arith, inl, zero, suc, true, false, map}
 use Rattle.std.specs.Prelude.{IsSomeAnd, slice_get}
 use Rattle.std.specs.List.{IsDistinct}
 use Rattle.std.specs.List.Sorted.{IsSortedByKey}
 use Rattle.std.proofs.lemmas.List.Elements.{All-from_recursion, All-nil}
 use Rattle.qs_values.specs.declared.kind.Kind.TheVariants.{Bit}
 use Rattle.plan_tree.specs.declared.plan.Deed.TheVariants.{Pulse}
-use Rattle.plan_tree.specs.Acts.{Own, all_acts, planned_acts}
+use Rattle.plan_tree.specs.Acts.{Act, Own, all_acts, planned_acts}
 use Rattle.plan_tree.specs.Deeds.{plays}
-use Rattle.plan_tree.specs.Example.{byte, example_outcome, example_parts, example_plan, example_tape, first, first_block, first_pulse, register, second, second_block, second_pulse, third, third_pulse}
+use Rattle.plan_tree.specs.examples.TwoBlocks.{byte, example_outcome, example_parts, example_plan, example_tape, first, first_block, first_pulse, register, second, second_block, second_pulse, third, third_pulse}
 use Rattle.plan_tree.specs.Parts.{parts_of}
-use Rattle.plan_tree.specs.Run.{run_of}
-use Rattle.plan_tree.specs.Sound.{AreApart, Fits, HasVars, IsSound, IsSoundBlock, IsSoundDeed, IsSoundEvent, IsSoundStmt, behind, same_start, start_cmp, start_key, weight_of}
+use Rattle.plan_tree.specs.Run.{Entry, run_of}
+use Rattle.plan_tree.specs.Sound.{AreApart, Fits, HasVars, IsSound, IsSoundBlock, IsSoundDeed, IsSoundEvent, IsSoundStmt, after_input, same_start, start_cmp, start_key, weight_of}
 
 run-fit : run_of example_plan example_tape ≡ example_outcome
 run-fit = refl
 
 -- ---- acts and parts
 
-all-acts : all_acts example_plan example_outcome.trace ≡ Own 1 first_pulse ∷ Own 2 second_pulse ∷ Own 2 third_pulse ∷ []
+-- a controller's own act of an entry
+abbrev own : ℕ → Entry → Act
+own k e = Own k e.tick e.what
+
+all-acts : all_acts example_plan example_outcome.trace ≡ own 1 first_pulse ∷ own 2 second_pulse ∷ own 2 third_pulse ∷ []
 all-acts = refl
 
 hub-acts : planned_acts example_plan example_tape 0 ≡ []
 hub-acts = refl
 
-first-acts : planned_acts example_plan example_tape 1 ≡ Own 1 first_pulse ∷ []
+first-acts : planned_acts example_plan example_tape 1 ≡ own 1 first_pulse ∷ []
 first-acts = refl
 
-second-acts : planned_acts example_plan example_tape 2 ≡ Own 2 second_pulse ∷ Own 2 third_pulse ∷ []
+second-acts : planned_acts example_plan example_tape 2 ≡ own 2 second_pulse ∷ own 2 third_pulse ∷ []
 second-acts = refl
 
 parts-fit : example_parts ≡ parts_of example_plan
@@ -38,7 +42,7 @@ parts-fit = refl
 pulses-play : map (λ e. plays e.act) (first ∷ second ∷ third ∷ []) ≡ true ∷ true ∷ true ∷ []
 pulses-play = refl
 
-plan-weight : weight_of example_plan.body ≡ 5
+plan-weight : weight_of example_plan ≡ 5
 plan-weight = refl
 
 three-bits : (i : ℕ) → i < 3 → IsSomeAnd (slice_get example_plan.vars (0 + i)) (λ ty. ty.kind ≡ Bit)
@@ -52,7 +56,7 @@ inputs-apart i zero a b h is_a is_b = absurd (omega arith)
 inputs-apart zero (suc zero) a b h is_a is_b =
     let same_a : record { name = 98 ∷ []; ty = register; first = 0 } ≡ a = cc in
     let same_b : record { name = 110 ∷ []; ty = byte; first = 3 } ≡ b = cc in
-    inl (omega (arith, ap behind same_a, ap (λ i. i.first) same_b))
+    inl (omega (arith, ap after_input same_a, ap (λ i. i.first) same_b))
 inputs-apart (suc i) (suc zero) a b h is_a is_b = absurd (omega arith)
 inputs-apart i (suc (suc j)) a b h is_a is_b = absurd cc
 
@@ -99,7 +103,7 @@ plan-sound = record {
   inputs = All-from_recursion (λ i. HasVars example_plan.vars i.first i.ty.kind i.ty.width) example_plan.inputs (three-bits, ((refl, refl), tt));
   apart = inputs-apart;
   outs = All-nil _;
-  body = All-from_recursion (IsSoundStmt example_plan) example_plan.body (first-sound, (second-sound, tt));
+  body = All-from_recursion (IsSoundStmt example_plan false) example_plan.body (first-sound, (second-sound, tt));
   gap = omega arith;
   turns = omega arith;
   budget = omega arith;

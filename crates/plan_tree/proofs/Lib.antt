@@ -1,3 +1,3 @@
 pub mod DeedLemmas
-pub mod InOrder
+pub mod StartLemmas
 pub mod ExampleLemmas

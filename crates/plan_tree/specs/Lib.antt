@@ -4,4 +4,5 @@ pub mod Run
 pub mod Parts
 pub mod Acts
 pub mod Sound
-pub mod Example
+pub mod Laws
+pub mod examples

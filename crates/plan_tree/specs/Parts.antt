@@ -1,6 +1,6 @@
 -- What each controller has of a plan: need and keep, and the parts. This project's own.
 -- A controller keeps the events of its ports, and each statement that holds one. The hub, controller 0, reads every variable.
-use Rattle.std.specs.Prelude.{ℕ, List, [], ◌∷◌, length, map, filter, replicate, slice_index, Bool, nat_eq}
+use Rattle.std.specs.Prelude.{ℕ, ◌+◌, List, [], ◌∷◌, ◌++◌, length, map, filter, replicate, slice_index, Bool, nat_eq}
 use Rattle.std.specs.List.{range_with_len}
 use Rattle.plan_tree.specs.declared.plan.Plan.{Plan}
 use Rattle.plan_tree.specs.declared.plan.Event.{Event}
@@ -11,6 +11,7 @@ use Rattle.plan_tree.specs.declared.part.Item.TheVariants.{Own}
 use Rattle.plan_tree.specs.declared.part.PartStmt.{PartStmt}
 use Rattle.plan_tree.specs.declared.part.PartStmt.TheVariants.{Block, Wait}
 use Rattle.plan_tree.specs.declared.part.Part.{Part}
+use Rattle.plan_tree.specs.Run.{Place}
 
 -- the controller of a port
 abbrev pub owner_of : Plan → ℕ → ℕ
@@ -29,9 +30,18 @@ abbrev pub block_or_wait : ℕ → List Item → PartStmt
 block_or_wait ticks [] = Wait ticks
 block_or_wait ticks (item ∷ items) = Block ticks (item ∷ items)
 
--- what a controller has of a statement
-abbrev pub part_stmt : Plan → ℕ → PlanStmt → PartStmt
-part_stmt plan k (PlanBlock b) = block_or_wait b.length (items_of plan k b.events)
+-- what a controller has of a statement at its place: a list of statements of its part
+abbrev pub Kept : Type 0
+Kept = Place → List PartStmt
+
+-- what it has of a statement of the plan
+abbrev pub part_stmt : Plan → ℕ → PlanStmt → Kept
+part_stmt plan k (PlanBlock b) here = block_or_wait b.length (items_of plan k b.events) ∷ []
+
+-- what it has of statements one after another, the first of them of number n
+abbrev pub kept_in_order : List Kept → ℕ → Kept
+kept_in_order [] n here = []
+kept_in_order (x ∷ xs) n here = x (n ∷ here) ++ kept_in_order xs (n + 1) here
 
 -- which variables a controller reads
 abbrev pub reads_of : Plan → ℕ → List Bool
@@ -39,7 +49,7 @@ reads_of plan k = replicate (length plan.vars) (nat_eq k 0)
 
 -- the part of controller k
 abbrev pub part_of : Plan → ℕ → Part
-part_of plan k = record { controller = k; reads = reads_of plan k; body = map (part_stmt plan k) plan.body }
+part_of plan k = record { controller = k; reads = reads_of plan k; body = kept_in_order (map (part_stmt plan k) plan.body) 0 [] }
 
 -- the parts, in order of controller
 abbrev pub parts_of : Plan → List Part

@@ -48,15 +48,15 @@ pub record Outcome : Type 0 where
 abbrev pub Rest : Type 0
 Rest = RunState → Outcome
 
--- what follows a statement: the next one, the next turn of its loop, and what stands behind its loop
-pub record Onward : Type 0 where
-  pub next : Rest
-  pub again : Rest
-  pub behind : Rest
+-- what follows a statement: the next one, the next turn of its loop, and what stands after its loop
+pub record Onward (R : Type 0) : Type 0 where
+  pub next : R
+  pub again : R
+  pub leave : R
 
 -- a statement at its place, before what follows it
 abbrev pub Walk : Type 0
-Walk = Place → Onward → Rest
+Walk = Place → Onward Rest → Rest
 
 -- an entry, before the rest of a trace
 abbrev pub with_entry : Entry → Outcome → Outcome
@@ -88,8 +88,8 @@ abbrev pub most_qubits : ℕ
 most_qubits = 32
 
 -- what follows the plan
-abbrev pub at_the_end : Onward
-at_the_end = record { next = ends Done; again = ends Done; behind = ends Done }
+abbrev pub at_the_end : Onward Rest
+at_the_end = record { next = ends Done; again = ends Done; leave = ends Done }
 
 -- what a run does by its plan and its tape
 module _ (plan : Plan) (tape : Tape) where

@@ -1,5 +1,5 @@
 -- Sound plans, and tapes that fit them. This project's own.
-use Rattle.std.specs.Prelude.{◌≡◌, ◌⊎◌, ℕ, ◌+◌, ◌<◌, ◌≤◌, ◌^◌, List, [], ◌∷◌, length, map, sum, filter, All, slice_get, IsSomeAnd, Bool, ◌&&◌, nat_eq, Some}
+use Rattle.std.specs.Prelude.{◌≡◌, ◌⊎◌, ℕ, ◌+◌, ◌<◌, ◌≤◌, ◌^◌, List, [], ◌∷◌, length, map, sum, filter, All, slice_get, IsSomeAnd, Bool, false, ◌&&◌, nat_eq, Some}
 use Rattle.std.specs.List.{IsDistinct}
 use Rattle.std.specs.List.Sorted.{IsSortedByKey}
 use Rattle.std.specs.declared.cmp.Ordering.{Ordering}
@@ -19,13 +19,17 @@ use Rattle.plan_tree.specs.declared.plan.PlanStmt.TheVariants.{Block}
 use Rattle.plan_tree.specs.Store.{size_of}
 use Rattle.plan_tree.specs.Deeds.{plays}
 
--- how much a statement weighs: a block 1 and its events
-abbrev pub weight_in : PlanStmt → ℕ
-weight_in (Block b) = 1 + length b.events
+-- how much a statement weighs where loops take at most so many turns: a block 1 and its events
+abbrev pub weight_in : ℕ → PlanStmt → ℕ
+weight_in budget (Block b) = 1 + length b.events
 
 -- how much statements weigh
-abbrev pub weight_of : List PlanStmt → ℕ
-weight_of body = sum (map weight_in body)
+abbrev pub weight_all : ℕ → List PlanStmt → ℕ
+weight_all budget body = sum (map (weight_in budget) body)
+
+-- how much a plan weighs
+abbrev pub weight_of : Plan → ℕ
+weight_of plan = weight_all plan.budget plan.body
 
 -- the order of an offset and a port
 abbrev pub start_cmp : ℕ × ℕ → ℕ × ℕ → Ordering
@@ -55,9 +59,9 @@ pub record IsSoundBlock (plan : Plan) (b : Block-) : Type 0 where
   pub order : IsSortedByKey start_key start_cmp b.events
   pub apart : IsDistinct same_start (filter (λ e. plays e.act) b.events)
 
--- A statement is sound.
-abbrev pub IsSoundStmt : Plan → PlanStmt → Type 0
-IsSoundStmt plan (Block b) = IsSoundBlock plan b
+-- A statement is sound, which stands in a loop or in none.
+abbrev pub IsSoundStmt : Plan → Bool → PlanStmt → Type 0
+IsSoundStmt plan in_loop (Block b) = IsSoundBlock plan b
 
 -- The variables from this one on are those of a value of this type: a register's are bits.
 abbrev pub HasVars : List Ty → ℕ → Kind → ℕ → Type 0
@@ -68,14 +72,14 @@ HasVars vars first Int width = IsSomeAnd (slice_get vars first) (λ ty. (ty.kind
 HasVars vars first Uint width = IsSomeAnd (slice_get vars first) (λ ty. (ty.kind ≡ Uint) × (ty.width ≡ width))
 HasVars vars first Angle width = IsSomeAnd (slice_get vars first) (λ ty. (ty.kind ≡ Angle) × (ty.width ≡ width))
 
--- the first variable behind an input's
-abbrev pub behind : Input → ℕ
-behind input = input.first + size_of input.ty.kind input.ty.width
+-- the first variable after an input's
+abbrev pub after_input : Input → ℕ
+after_input input = input.first + size_of input.ty.kind input.ty.width
 
 -- No two inputs share a variable.
 abbrev pub AreApart : List Input → Type 0
 AreApart inputs = (i j : ℕ) (a b : Input) → i < j → slice_get inputs i ≡ Some a → slice_get inputs j ≡ Some b
-    → (behind a ≤ b.first) ⊎ (behind b ≤ a.first)
+    → (after_input a ≤ b.first) ⊎ (after_input b ≤ a.first)
 
 -- A plan is sound: its numbers are in range, its inputs and outputs have their variables, and its statements are sound.
 pub record IsSound (plan : Plan) : Type 0 where
@@ -88,11 +92,11 @@ pub record IsSound (plan : Plan) : Type 0 where
   pub inputs : All (λ i. HasVars plan.vars i.first i.ty.kind i.ty.width) plan.inputs
   pub apart : AreApart plan.inputs
   pub outs : All (λ o. HasVars plan.vars o.first o.ty.kind o.ty.width) plan.outs
-  pub body : All (IsSoundStmt plan) plan.body
+  pub body : All (IsSoundStmt plan false) plan.body
   pub gap : plan.gap ≤ 1048576
   pub turns : 1 ≤ plan.budget
   pub budget : plan.budget ≤ 100000
-  pub weight : weight_of plan.body ≤ 1048576
+  pub weight : weight_of plan ≤ 1048576
 
 -- One value for each input, in its type.
 abbrev pub FitInputs : List Input → List ℕ → Type 0

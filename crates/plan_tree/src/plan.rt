@@ -21,7 +21,8 @@ pub struct Event {
 pub struct Block {
     /// The ticks from its start to that of the next statement.
     pub length: u64,
-    /// Its events: in a sound plan by offset and at one offset by port, each before the block's end.
+    /// Its events: in a sound plan by offset and at one offset by port, each before the block's
+    /// end.
     pub events: List<Event>,
 }
 

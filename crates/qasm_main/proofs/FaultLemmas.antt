@@ -1,85 +1,95 @@
--- What the answer says of faults.
-use Rattle.std.proofs.Common.{◌≡◌, ◌≢◌, ℕ, ◌<◌, List, ap, sym, ◌∙◌, arith, inl, inr}
-use Rattle.std.specs.Prelude.{Option, Some, None}
+-- What the answer of a call says of faults.
+use Rattle.std.proofs.Common.{◌≡◌, ◌≢◌, ℕ, ◌<◌, List, [], ◌∷◌, ap, sym, ◌∙◌, refl, subst, arith, inl, inr}
+use Rattle.std.specs.Prelude.{IsSome}
+use Rattle.std.specs.List.{Contains}
 use Rattle.outside.specs.declared.shelf.Taken.{Taken}
 use Rattle.outside.specs.declared.shelf.Taken.TheVariants.{Whole, Longer}
 use Rattle.outside.specs.Faults.{Rose, most_faults}
 use Rattle.outside.specs.Shelf.{ShelfState}
 use Rattle.outside.specs.Sink.{SinkState}
 use Rattle.plan_tree.specs.Run.{Ending, Done}
+use Rattle.qs_machine.specs.declared.machine.Machine.{Machine}
+use Rattle.timeline_board.specs.Refused.{name_of, names}
 use Rattle.qasm_main.specs.declared.top.Plain.{Plain}
+use Rattle.qasm_main.specs.Answer.{Answers, Finishes, Replies, Reply, StepsSource, StepsTaken, status_by}
 use Rattle.qasm_main.specs.Faults.{IsReadFault, IsWriteFault}
-use Rattle.qasm_main.specs.Answer.{AnswersWords, AnswersSource, AnswersFile, Finishes, Told, status_by}
+use Rattle.qasm_main.specs.Texts.{file_too_long}
+use Rattle.qasm_main.specs.Words.{Command, Step, Usage, command_of, files_of}
+
+-- the code of a file that is too long has a name
+pub long-named : IsSome (name_of file_too_long)
+unfolding names
+long-named = refl
 
 rose-below : (before now : ℕ) → Rose before now → before < most_faults → before < now
 rose-below before now rose below = omega (arith, rose.more, below)
 
--- a text was told with a status that tells of no fault of the shelf or the sink
-pub record TellsNoFault (old new : SinkState) (status : ℕ) : Type 0 where
-  pub told : Told
-  pub finishes : Finishes old new told status
-  pub no_read : told.status ≢ 4
-  pub no_write : told.status ≢ 5
+-- a status of a call in which no read and no write failed
+abbrev IsOther : ℕ → Type 0
+IsOther status = (status ≢ 4) × (status ≢ 5)
 
-told-write : (old new : SinkState) (told : Told) (status : ℕ) → Finishes old new told status → told.status ≢ 5 → IsWriteFault old new status
-told-write old new told status (inl whole) other = λ below. ((λ five. absurd (other (sym whole.0 ∙ five))), (λ rose. absurd (omega (arith, rose, ap (λ s. s.faults) whole.1))))
-told-write old new told status (inr stopped) other = λ below. ((λ five. rose-below old.faults new.faults stopped.1.rose below), (λ rose. stopped.0))
+ending-other : (ending : Ending) → IsOther (status_by ending)
+ending-other Done = ((λ e. absurd (omega (arith, e))), (λ e. absurd (omega (arith, e))))
 
-told-read : (old new : SinkState) (told : Told) (status : ℕ) → Finishes old new told status → told.status ≢ 4 → status ≢ 4
-told-read old new told status (inl whole) other = λ four. other (sym whole.0 ∙ four)
-told-read old new told status (inr stopped) other = λ four. absurd (omega (arith, four, stopped.0))
+low-other : (n : ℕ) (reply : Reply) → n < 4 → reply.status ≡ n → IsOther reply.status
+low-other n reply low is = ((λ e. absurd (omega (arith, low, is, e))), (λ e. absurd (omega (arith, low, is, e))))
 
-told-as : (old new : SinkState) (told : Told) (status : ℕ) → Finishes old new told status → status ≢ 5 → status ≡ told.status
-told-as old new told status (inl whole) other = whole.0
-told-as old new told status (inr stopped) other = absurd (other stopped.0)
+source-other : (machine : Machine) (source : List ℕ) (reply : Reply) → StepsSource machine source reply → IsOther reply.status
+source-other machine source reply (inl (plan, compiled, steps)) = subst IsOther (sym steps.status) (ending-other _)
+source-other machine source reply (inr (refusal, refused, is)) = low-other 1 reply (omega arith) (ap (λ r. r.status) is)
 
-ending-read : (ending : Ending) → status_by ending ≢ 4
-ending-read Done = λ e. absurd (omega (arith, e))
+taken-other : (machine : Machine) (name : List ℕ) (taken : Taken) (reply : Reply) → StepsTaken machine name taken reply → IsOther reply.status
+taken-other machine name (Whole source) reply steps = source-other machine source reply steps
+taken-other machine name Longer reply is = low-other 3 reply (omega arith) (ap (λ r. r.status) is)
 
-ending-write : (ending : Ending) → status_by ending ≢ 5
-ending-write Done = λ e. absurd (omega (arith, e))
+-- no reply has the status of a failed write
+no-five : (command : Command) (shelf shelf' : ShelfState) (reply : Reply) → Replies command shelf shelf' reply → reply.status ≢ 5
+no-five Usage shelf shelf' reply replies = (low-other 2 reply (omega arith) (ap (λ r. r.status) replies.1)).1
+no-five (Step name) shelf shelf' reply (inl fails) = λ five. absurd (omega (arith, five, ap (λ (r : Reply). r.status) fails.told))
+no-five (Step name) shelf shelf' reply (inr (same, file)) = (taken-other _ name file.taken reply file.steps).1
 
-source-told : (most : ℕ) (bytes : List ℕ) (old new : SinkState) (plain : Plain) → AnswersSource most bytes old new plain → TellsNoFault old new plain.status
-source-told most bytes old new plain (inl (sentences, source, answers)) = elim answers [
-  | inl run ↦ record { told = _; finishes = run.1.told; no_read = ending-read _; no_write = ending-write _ }
-  | inr long ↦ record { told = _; finishes = long.told.finishes; no_read = λ e. absurd (omega (arith, e)); no_write = λ e. absurd (omega (arith, e)) }
-]
-source-told most bytes old new plain (inr refused) = record { told = _; finishes = refused.told.finishes; no_read = λ e. absurd (omega (arith, e)); no_write = λ e. absurd (omega (arith, e)) }
+told-write : (old new : SinkState) (reply : Reply) (status : ℕ) → Finishes old new reply status → reply.status ≢ 5 → IsWriteFault old new status
+told-write old new reply status (inl whole) other = λ below. ((λ five. absurd (other (sym whole.0 ∙ five))), (λ rose. absurd (omega (arith, rose, ap (λ s. s.faults) whole.1))))
+told-write old new reply status (inr stopped) other = λ below. ((λ five. rose-below old.faults new.faults stopped.1.rose below), (λ rose. stopped.0))
 
-file-told : (most : ℕ) (name : List ℕ) (taken : Taken) (old new : SinkState) (plain : Plain) → AnswersFile most name taken old new plain → TellsNoFault old new plain.status
-file-told most name (Whole bytes) old new plain answers = source-told most bytes old new plain answers
-file-told most name Longer old new plain alone = record { told = _; finishes = alone.finishes; no_read = λ e. absurd (omega (arith, e)); no_write = λ e. absurd (omega (arith, e)) }
+told-other : (old new : SinkState) (reply : Reply) (status : ℕ) → Finishes old new reply status → reply.status ≢ 4 → status ≢ 4
+told-other old new reply status (inl whole) other = λ four. other (sym whole.0 ∙ four)
+told-other old new reply status (inr stopped) other = λ four. absurd (omega (arith, four, stopped.0))
 
-same-write : (old new : SinkState) (status : ℕ) → new ≡ old → status ≡ 7 → IsWriteFault old new status
-same-write old new status same seven = λ below. ((λ five. absurd (omega (arith, five, seven))), (λ rose. absurd (omega (arith, rose, ap (λ s. s.faults) same))))
+told-as : (old new : SinkState) (reply : Reply) (status : ℕ) → Finishes old new reply status → status ≢ 5 → status ≡ reply.status
+told-as old new reply status (inl whole) other = whole.0
+told-as old new reply status (inr stopped) other = absurd (other stopped.0)
 
 -- The sink's faults.
-pub write-fault : (most limit : ℕ) (file : Option (List ℕ)) (shelf shelf' : ShelfState) (old new : SinkState) (plain : Plain)
-    → AnswersWords most limit file shelf shelf' old new plain → IsWriteFault old new plain.status
-write-fault most limit None shelf shelf' old new plain answers = told-write old new _ plain.status answers.1.finishes (λ e. absurd (omega (arith, e)))
-write-fault most limit (Some name) shelf shelf' old new plain (inl fails) = told-write old new _ plain.status fails.told.finishes (λ e. absurd (omega (arith, e)))
-write-fault most limit (Some name) shelf shelf' old new plain (inr read) = elim read.1 [
-  | inl wants ↦ same-write old new plain.status wants.sink_same wants.status
-  | inr taken ↦ let t = file-told most name taken.taken old new plain taken.answers in told-write old new t.told plain.status t.finishes t.no_write
-]
+pub write-fault : (words : List (List ℕ)) (shelf shelf' : ShelfState) (old new : SinkState) (plain : Plain) → Answers words shelf shelf' old new plain → IsWriteFault old new plain.status
+write-fault words shelf shelf' old new plain (inl tells) = told-write old new tells.reply plain.status tells.finishes (no-five (command_of words) shelf shelf' tells.reply tells.replies)
+write-fault words shelf shelf' old new plain (inr memory) = λ below. (
+  (λ five. absurd (omega (arith, five, memory.status))),
+  (λ rose. absurd (omega (arith, rose, ap (λ s. s.faults) memory.sink_same))),
+)
 
 -- a shelf without a fault
-no-read : (file : Option (List ℕ)) (shelf shelf' : ShelfState) (status : ℕ) → shelf' ≡ shelf → status ≢ 4 → IsReadFault file shelf shelf' status
-no-read file shelf shelf' status same other = record {
+no-read : (files : List (List ℕ)) (shelf shelf' : ShelfState) (status : ℕ) → shelf' ≡ shelf → status ≢ 4 → IsReadFault files shelf shelf' status
+no-read files shelf shelf' status same other = record {
   exact = λ below write. ((λ four. absurd (other four)), (λ rose. absurd (omega (arith, rose, ap (λ s. s.faults) same))));
   named = λ below rose. absurd (omega (arith, rose, ap (λ s. s.faults) same));
+  same = ap (λ s. s.files) same;
 }
 
--- The shelf's faults.
-pub read-fault : (most limit : ℕ) (file : Option (List ℕ)) (shelf shelf' : ShelfState) (old new : SinkState) (plain : Plain)
-    → AnswersWords most limit file shelf shelf' old new plain → IsReadFault file shelf shelf' plain.status
-read-fault most limit None shelf shelf' old new plain answers =
-    no-read None shelf shelf' plain.status answers.0 (told-read old new _ plain.status answers.1.finishes (λ e. absurd (omega (arith, e))))
-read-fault most limit (Some name) shelf shelf' old new plain (inl fails) = record {
-  exact = λ below write. ((λ four. rose-below shelf.faults shelf'.faults fails.rose below), (λ rose. told-as old new _ plain.status fails.told.finishes write));
-  named = λ below rose. ap Some (sym fails.failed);
+reply-read : (command : Command) (shelf shelf' : ShelfState) (old new : SinkState) (reply : Reply) (status : ℕ) → Replies command shelf shelf' reply
+    → Finishes old new reply status → IsReadFault (files_of command) shelf shelf' status
+reply-read Usage shelf shelf' old new reply status replies finishes =
+    no-read [] shelf shelf' status replies.0 (told-other old new reply status finishes (low-other 2 reply (omega arith) (ap (λ r. r.status) replies.1)).0)
+reply-read (Step name) shelf shelf' old new reply status (inl fails) finishes = record {
+  exact = λ below write. ((λ four. rose-below shelf.faults shelf'.faults fails.rose below), (λ rose. told-as old new reply status finishes write ∙ ap (λ (r : Reply). r.status) fails.told));
+  named = λ below rose. (0, omega arith, sym fails.failed);
+  same = fails.files_same;
 }
-read-fault most limit (Some name) shelf shelf' old new plain (inr read) = elim read.1 [
-  | inl wants ↦ no-read (Some name) shelf shelf' plain.status read.0 (λ four. absurd (omega (arith, four, wants.status)))
-  | inr taken ↦ let t = file-told most name taken.taken old new plain taken.answers in no-read (Some name) shelf shelf' plain.status read.0 (told-read old new t.told plain.status t.finishes t.no_read)
-]
+reply-read (Step name) shelf shelf' old new reply status (inr (same, file)) finishes =
+    no-read (name ∷ []) shelf shelf' status same (told-other old new reply status finishes (taken-other _ name file.taken reply file.steps).0)
+
+-- The shelf's faults.
+pub read-fault : (words : List (List ℕ)) (shelf shelf' : ShelfState) (old new : SinkState) (plain : Plain) → Answers words shelf shelf' old new plain
+    → IsReadFault (files_of (command_of words)) shelf shelf' plain.status
+read-fault words shelf shelf' old new plain (inl tells) = reply-read (command_of words) shelf shelf' old new tells.reply plain.status tells.replies tells.finishes
+read-fault words shelf shelf' old new plain (inr memory) = no-read (files_of (command_of words)) shelf shelf' plain.status memory.shelf_same (λ four. absurd (omega (arith, four, memory.status)))

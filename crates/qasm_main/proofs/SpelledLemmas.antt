@@ -3,12 +3,12 @@ use Rattle.std.proofs.Common.{◌≡◌, ℕ, ◌<◌, List, [], ◌∷◌, ◌+
 use Rattle.std.specs.Prelude.{zero, suc}
 use Rattle.std.proofs.lemmas.List.Elements.{All-tail}
 use Rattle.qs_lexer.specs.declared.token.Token.{Token}
-use Rattle.qasm_main.specs.declared.statement.Statement.{Statement}
-use Rattle.qasm_main.specs.declared.statement.Statement.TheVariants.{X, Cx, Delay, Barrier}
-use Rattle.qasm_main.specs.declared.statement.Sentence.{Sentence}
-use Rattle.qasm_main.specs.Source.{Built, with_sentence, reading_of, statement_at}
-use Rattle.qasm_main.specs.Statement.{IsWellFormed}
-use Rattle.qasm_main.specs.Spelled.{SpelledIsRead, spelled, texts_of, words_of}
+use Rattle.qasm_main.specs.declared.front.statement.Statement.{Statement}
+use Rattle.qasm_main.specs.declared.front.statement.Statement.TheVariants.{X, Cx, Delay, Barrier}
+use Rattle.qasm_main.specs.declared.front.statement.LocatedStatement.{LocatedStatement}
+use Rattle.qasm_main.specs.front.Source.{Built, with_statement, reading_of, statement_at}
+use Rattle.qasm_main.specs.front.Statement.{IsWellFormed}
+use Rattle.qasm_main.specs.front.Spelled.{SpelledIsRead, spelled, texts_of, words_of}
 use Rattle.qasm_main.proofs.ReaderLemmas.{reading_of-some}
 use Rattle.qasm_main.proofs.SpelledWords.{statement-text}
 
@@ -35,8 +35,8 @@ spelled_is_read (suc n) (s ∷ ss) ts formed few h =
     let read = statement-text s ts (spelled ss) (formed 0 s (omega arith)) h in
     let some = some-token s ts (spelled ss) h in
     let others = spelled_is_read n ss read.0 (All-tail IsWellFormed s ss formed) (omega arith) read.2 in
-    let sentence : Sentence = record { span = some.0.span; statement = s } in (
+    let sentence : LocatedStatement = record { span = some.0.span; statement = s } in (
       sentence ∷ others.0,
-      ap (reading_of (suc n)) some.2 ∙ reading_of-some n some.0 some.1 (record { value = s; rest = read.0 }) (sym read.1 ∙ ap statement_at some.2) ∙ ap (with_sentence sentence) others.1,
+      ap (reading_of (suc n)) some.2 ∙ reading_of-some n some.0 some.1 (record { value = s; rest = read.0 }) (sym read.1 ∙ ap statement_at some.2) ∙ ap (with_statement sentence) others.1,
       ap (λ rest. s ∷ rest) others.2,
     )

@@ -1,12 +1,7 @@
-pub mod Source
-pub mod Statement
-pub mod Spelled
-pub mod Compiled
-pub mod Named
-pub mod Reads
+pub mod front
 pub mod Words
-pub mod Report
-pub mod Refused
+pub mod Texts
 pub mod Ran
 pub mod Answer
 pub mod Faults
+pub mod steps

@@ -2,38 +2,53 @@
 //! timeline.
 #![tactic(auto)]
 
-mod compile;
-mod laws;
-mod reader;
-mod refusal;
+mod front;
 mod run;
-mod split;
-mod statement;
+mod telling;
 #[cfg(test)]
 mod tests;
 mod top;
 mod words;
 
 use outside::{FileShelf, StreamSink};
+use qs_values::Memory;
 use std::alloc::Global;
+use std::env::{Env, FillError};
+use std::io;
 use std::process::ExitCode;
-use std::{env, io};
+use top::{OUT_OF_MEMORY, plain_top};
 
-/// The status where memory is wanting.
-const WANT_OF_MEMORY: u8 = 7;
+/// How many bytes there is room for in a word, where it didn't fit before.
+const ROOMS: [usize; 3] = [256, 65_536, 16_777_216];
 
-/// The words behind the program's name. There are none where a word isn't UTF-8, since no command
-/// fits it.
-fn words_of(rt: &HostRuntime, alloc: Global) -> io::Result<Vec<String>> {
-    let mut words = Vec::new(alloc);
-    match env::args(rt) {
-        Ok(args) => {
-            for word in args.skip(1) {
-                words.push(word)?;
+/// The bytes of the word of this number, where there is one. The program's name has the number 0.
+fn word_at(rt: &HostRuntime, alloc: Global, number: usize) -> Result<Option<Vec<u8>>, Memory> {
+    for room in ROOMS {
+        let mut word = vec![in alloc; 0; room]?;
+        match rt.arg(number, &mut word) {
+            Ok(length) => {
+                word.truncate(length);
+                return Ok(Some(word));
             }
+            Err(FillError::NotPresent) => return Ok(None),
+            Err(FillError::TooLong) => {}
         }
-        Err(error) if error.kind() == io::ErrorKind::OutOfMemory => return Err(error),
-        Err(_) => {}
+    }
+    Err(Memory)
+}
+
+/// The words after the program's name, which isn't looked at. There are none where one of them isn't
+/// UTF-8, since no command fits it.
+fn words_of(rt: &HostRuntime, alloc: Global) -> Result<Vec<String>, Memory> {
+    let mut words = Vec::new(alloc);
+    for number in 1..usize::MAX {
+        let Some(word) = word_at(rt, alloc, number)? else {
+            break;
+        };
+        match String::from_utf8(word) {
+            Ok(word) => words.push(word)?,
+            Err(_) => return Ok(Vec::new(alloc)),
+        }
     }
     Ok(words)
 }
@@ -41,13 +56,13 @@ fn words_of(rt: &HostRuntime, alloc: Global) -> io::Result<Vec<String>> {
 fn main(rt: HostRuntime) -> ExitCode {
     let alloc = rt.alloc();
     let Ok(words) = words_of(&rt, alloc) else {
-        return ExitCode::from(WANT_OF_MEMORY);
+        return ExitCode::from(OUT_OF_MEMORY);
     };
     let Ok(files) = rt.clone() else {
-        return ExitCode::from(WANT_OF_MEMORY);
+        return ExitCode::from(OUT_OF_MEMORY);
     };
     let mut shelf = FileShelf::new(files);
     let mut sink = StreamSink::new(io::writer(&rt));
-    let plain = top::plain_top(alloc, words.as_slice(), &mut shelf, &mut sink);
+    let plain = plain_top(alloc, words.as_slice(), &mut shelf, &mut sink);
     ExitCode::from(plain.status)
 }

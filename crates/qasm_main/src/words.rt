@@ -1,20 +1,28 @@
-ghost use Rattle.std.specs.Prelude.{◌≡◌, map, option_map, string_bytes};
-ghost use Rattle.qasm_main.specs.Words.{file_of};
+ghost use Rattle.std.specs.Prelude.{◌≡◌, map, string_bytes};
+ghost use Rattle.qasm_main.specs.Words.{command_of, shown};
 
-/// The file of a call `step F`, and `None` where the words are no such call. Neither `-` nor the
-/// empty word is a file.
-pub fn file_of(words: &[String]) -> Option<&str>
-    ensures { option_map (λ n. n.now) result ≡ file_of (map string_bytes words.now) }
+/// What the words of a call ask for, of what is built.
+#[derive(Clone, Copy)]
+pub enum Command<'a> {
+    /// `step F`: compile the file, run it by picks, and report.
+    Step(&'a str),
+    /// Any other words.
+    Usage,
+}
+
+/// What these words ask for. Neither `-` nor the empty word is a file to step.
+pub fn command_of(words: &[String]) -> Command<'_>
+    ensures { shown result ≡ command_of (map string_bytes words.now) }
 {
     match words {
-        [command, file] if command.as_str() == "step" => {
+        [word, file] if word.as_str() == "step" => {
             let name = file.as_str();
             if name == "-" || name.is_empty() {
-                None
+                Command::Usage
             } else {
-                Some(name)
+                Command::Step(name)
             }
         }
-        _ => None,
+        _ => Command::Usage,
     }
 }

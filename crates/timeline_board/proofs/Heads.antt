@@ -3,9 +3,9 @@ use Rattle.std.proofs.Common.{◌≡◌, ℕ, ◌+◌, ◌<◌, ◌⊎◌, inl, 
 use Rattle.std.specs.Prelude.{Option, Some, None, slice_get}
 use Rattle.controller_machine.specs.declared.ctl.Played.{Played}
 use Rattle.timeline_board.specs.declared.head.Head.{Head}
-use Rattle.timeline_board.specs.Order.{IsNotBefore}
-use Rattle.timeline_board.specs.Merging.{IsFirstOf}
-use Rattle.timeline_board.proofs.Keys.{before, not-before-earlier, not-before-itself}
+use Rattle.timeline_board.specs.Order.{IsNotBefore, comes_before}
+use Rattle.timeline_board.specs.steps.Merging.{IsFirstOf}
+use Rattle.timeline_board.proofs.Keys.{not-before-earlier, not-before-itself}
 
 -- a number below the next is below or the number itself
 below-or-it : (k n : ℕ) → k < n + 1 → (k < n) ⊎ (k ≡ n)
@@ -72,7 +72,7 @@ first-new lefts n e left none at here =
 
 -- one more log, whose entry comes before the first
 pub first-earlier : (lefts : List (List Played)) (n : ℕ) (h : Head) (e : Played) (left : List Played) → IsFirstOf lefts n (Some h) → slice_get lefts n ≡ Some left
-    → Some e ≡ slice_get left 0 → before e h.entry ≡ true → IsFirstOf lefts (n + 1) (Some (record { log = n; entry = e }))
+    → Some e ≡ slice_get left 0 → comes_before e h.entry ≡ true → IsFirstOf lefts (n + 1) (Some (record { log = n; entry = e }))
 first-earlier lefts n h e left is at here early =
     let split = has-rest left e here in
     record {
@@ -84,7 +84,7 @@ first-earlier lefts n h e left is at here early =
 
 -- one more log, whose entry doesn't
 pub first-kept : (lefts : List (List Played)) (n : ℕ) (h : Head) (e : Played) (left : List Played) → IsFirstOf lefts n (Some h) → slice_get lefts n ≡ Some left
-    → Some e ≡ slice_get left 0 → before e h.entry ≡ false → IsFirstOf lefts (n + 1) (Some h)
+    → Some e ≡ slice_get left 0 → comes_before e h.entry ≡ false → IsFirstOf lefts (n + 1) (Some h)
 first-kept lefts n h e left is at here late = record {
   rest = is.rest;
   before = let b = is.before in omega arith;

@@ -7,7 +7,7 @@ use Rattle.controller_machine.specs.Ctl.{CtlState}
 use Rattle.controller_machine.specs.declared.ctl.Played.{Played}
 use Rattle.timeline_board.specs.declared.head.Head.{Head}
 use Rattle.timeline_board.specs.Order.{Gives, NextIs, logs_of}
-use Rattle.timeline_board.specs.Merging.{IsFirstOf, IsHead, lefts_of}
+use Rattle.timeline_board.specs.steps.Merging.{IsFirstOf, IsHead, lefts_of}
 
 -- all is left where all places are 0
 pub lefts-start : (logs : List (List Played)) (n : ℕ) → lefts_of logs (replicate n 0) ≡ logs

@@ -1,9 +1,12 @@
+pub mod Pages
 pub mod Keys
+pub mod Sorts
 pub mod Lefts
 pub mod Heads
 pub mod Merges
+pub mod TimeOrder
+pub mod Shares
 pub mod LineLemmas
 pub mod ValueLemmas
 pub mod Timelines
 pub mod ReportLemmas
-pub mod ExampleLemmas

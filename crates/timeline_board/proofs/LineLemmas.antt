@@ -3,9 +3,6 @@ use Rattle.std.proofs.Common.{◌≡◌, ℕ, ◌+◌, ◌<◌, List, [], ◌∷
 use Rattle.std.specs.List.{flat_map}
 use Rattle.std.proofs.lemmas.Grind.{flat_map-append}
 use Rattle.std.proofs.lemmas.List.{append-nil, take_more}
-use Rattle.outside.specs.Sink.{SinkState}
-use Rattle.outside.specs.Text.{GoesOn, IsAt, Waiting}
-use Rattle.outside.proofs.Texts.{put-none}
 
 -- the line of a last element
 pub line-last : {X : Type 0} (line : X → List ℕ) (xs : List X) (x : X) → flat_map line xs ++ line x ≡ flat_map line (xs ++ x ∷ [])
@@ -15,7 +12,3 @@ line-last line xs x = sym (flat_map-append line xs (x ∷ []) ∙ ap (λ text. f
 pub line-more : {X : Type 0} (line : X → List ℕ) (xs : List X) (i : ℕ) (d : X) → i < length xs
     → flat_map line (take i xs) ++ line (get_or xs i d) ≡ flat_map line (take (i + 1) xs)
 line-more line xs i d h = line-last line (take i xs) (get_or xs i d) ∙ ap (flat_map line) (sym (take_more xs i d h))
-
--- a text that goes on from an empty page is all that was put since then
-pub at-end : (start now : SinkState) (page w : Waiting) (text : List ℕ) → page ≡ record { bytes = []; failed = false } → GoesOn start page now w text → IsAt start now w text
-at-end start now page w text empty goes = goes.on start [] (subst (λ p. IsAt start start p []) (sym empty) (put-none start []))

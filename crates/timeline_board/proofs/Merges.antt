@@ -4,15 +4,14 @@ use Rattle.std.specs.Prelude.{Some, slice_get, slice_set}
 use Rattle.std.specs.List.Sorted.{IsPermutation}
 use Rattle.std.proofs.lemmas.List.Sorted.{IsPermutation-append_right, IsPermutation-cons, IsPermutation-middle, IsPermutation-refl, IsPermutation-trans}
 use Rattle.controller_machine.specs.declared.ctl.Played.{Played}
-use Rattle.timeline_board.specs.Order.{AreEmpty, Gives, IsInOrder, IsMerge, IsNotBefore, IsOrdered, MergeOrders, all_of}
-use Rattle.timeline_board.proofs.Keys.{before}
+use Rattle.timeline_board.specs.Order.{AreEmpty, Gives, IsInOrder, IsMerge, IsNotBefore, IsOrdered, MergeOrders, all_of, comes_before}
 
 -- logs that each stand in order
 abbrev AreInOrder : List (List Played) → Type 0
 AreInOrder logs = (k : ℕ) (log : List Played) → slice_get logs k ≡ Some log → IsInOrder log
 
 -- what stands in a list after one place was set is what was put there, or stood there before
-set-cases : {X : Type 0} (xs : List X) (k j : ℕ) (y x : X) → slice_get (slice_set xs k y) j ≡ Some x → ((k ≡ j) × (y ≡ x)) ⊎ (slice_get xs j ≡ Some x)
+pub set-cases : {X : Type 0} (xs : List X) (k j : ℕ) (y x : X) → slice_get (slice_set xs k y) j ≡ Some x → ((k ≡ j) × (y ≡ x)) ⊎ (slice_get xs j ≡ Some x)
 set-cases [] k j y x at = inr at
 set-cases (z ∷ xs) zero zero y x at = let same : y ≡ x = cc in inl (refl, same)
 set-cases (z ∷ xs) zero (suc j) y x at = inr at
@@ -20,25 +19,25 @@ set-cases (z ∷ xs) (suc k) zero y x at = inr at
 set-cases (z ∷ xs) (suc k) (suc j) y x at = elim (set-cases xs k j y x at) [ inl e ↦ inl (ap suc e.0, e.1) | inr e ↦ inr e ]
 
 -- a list without its first entry stands in order too
-order-tail : (p : Played) (log : List Played) → IsInOrder (p ∷ log) → IsInOrder log
+pub order-tail : (p : Played) (log : List Played) → IsInOrder (p ∷ log) → IsInOrder log
 order-tail p log h k d low high =
     let eq : k + 1 ≡ suc k = omega arith in
     let eq2 : k + 1 + 1 ≡ suc (k + 1) = omega arith in
-    let got : before (get_or (p ∷ log) (k + 1 + 1) d) (get_or (p ∷ log) (k + 1) d) ≡ false = h (k + 1) d (omega arith) (omega arith) in
-    subst (λ n. before (get_or (p ∷ log) (suc (k + 1)) d) (get_or (p ∷ log) n d) ≡ false) eq
-    (subst (λ n. before (get_or (p ∷ log) n d) (get_or (p ∷ log) (k + 1) d) ≡ false) eq2 got)
+    let got : comes_before (get_or (p ∷ log) (k + 1 + 1) d) (get_or (p ∷ log) (k + 1) d) ≡ false = h (k + 1) d (omega arith) (omega arith) in
+    subst (λ n. comes_before (get_or (p ∷ log) (suc (k + 1)) d) (get_or (p ∷ log) n d) ≡ false) eq
+    (subst (λ n. comes_before (get_or (p ∷ log) n d) (get_or (p ∷ log) (k + 1) d) ≡ false) eq2 got)
 
 -- the second entry isn't before the first
-order-second : (p q : Played) (log : List Played) → IsInOrder (p ∷ q ∷ log) → IsNotBefore q p
+pub order-second : (p q : Played) (log : List Played) → IsInOrder (p ∷ q ∷ log) → IsNotBefore q p
 order-second p q log h = h 0 p (omega arith) (omega arith)
 
 -- one more entry stands in front, before which the first doesn't come
-order-cons : (p : Played) (log : List Played) → IsInOrder log → ((q : Played) (rest : List Played) → log ≡ q ∷ rest → IsNotBefore q p) → IsInOrder (p ∷ log)
+pub order-cons : (p : Played) (log : List Played) → IsInOrder log → ((q : Played) (rest : List Played) → log ≡ q ∷ rest → IsNotBefore q p) → IsInOrder (p ∷ log)
 order-cons p [] h behind k d low high = absurd (omega arith)
 order-cons p (q ∷ rest) h behind zero d low high = behind q rest refl
 order-cons p (q ∷ rest) h behind (suc k) d low high =
     let eq : suc (k + 1) ≡ suc k + 1 = omega arith in
-    subst (λ n. before (get_or (p ∷ q ∷ rest) n d) (get_or (q ∷ rest) k d) ≡ false) eq (h k d (omega arith) (omega arith))
+    subst (λ n. comes_before (get_or (p ∷ q ∷ rest) n d) (get_or (q ∷ rest) k d) ≡ false) eq (h k d (omega arith) (omega arith))
 
 -- empty logs have no entries
 empty-all : (logs : List (List Played)) → AreEmpty logs → all_of logs ≡ []

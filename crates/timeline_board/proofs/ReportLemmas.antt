@@ -1,59 +1,68 @@
--- The report of merged logs of all planned acts is the undivided run's.
-use Rattle.std.proofs.Common.{◌≡◌, ℕ, List, [], refl, sym, subst}
-use Rattle.std.specs.Prelude.{All, Some, slice_get}
+-- The merge of all planned logs is the timeline of the undivided run, and its report is that run's.
+use Rattle.std.proofs.Common.{◌≡◌, ℕ, ◌+◌, ◌<◌, List, true, false, refl, ap, sym, subst, ◌∙◌, arith}
+use Rattle.std.specs.Prelude.{All, IsTrue, Some, nat_lt, ◌&&◌, slice_get, length, Bool}
+use Rattle.std.specs.List.Sorted.{ties}
 use Rattle.std.specs.List.{range_with_len}
-use Rattle.std.specs.List.Sorted.{IsPermutation}
-use Rattle.std.proofs.lemmas.List.Elements.{All-get_or, All-map}
-use Rattle.std.proofs.lemmas.List.Folds.{flat_map-map}
-use Rattle.std.proofs.lemmas.List.Sorted.{IsPermutation-trans}
-use Rattle.std.proofs.lemmas.Option.{get_or_from_slice_get, slice_get_within}
+use Rattle.std.proofs.lemmas.Bool.Decides.{nat_tests}
+use Rattle.std.proofs.lemmas.List.Elements.{All-map, All-weaker}
 use Rattle.qs_values.specs.declared.tape.Tape.{Tape}
 use Rattle.plan_tree.specs.declared.plan.Plan.{Plan}
+use Rattle.plan_tree.specs.declared.plan.Event.{Event}
+use Rattle.plan_tree.specs.declared.plan.Deed.{Deed}
+use Rattle.plan_tree.specs.declared.plan.Deed.TheVariants.{Pulse}
+use Rattle.plan_tree.specs.declared.plan.PlanStmt.{PlanStmt}
+use Rattle.plan_tree.specs.declared.plan.PlanStmt.TheVariants.{Block}
 use Rattle.plan_tree.specs.Acts.{planned_acts}
 use Rattle.plan_tree.specs.Run.{run_of}
-use Rattle.plan_tree.specs.Sound.{IsSound}
+use Rattle.plan_tree.specs.Sound.{IsSound, start_cmp}
 use Rattle.qs_machine.specs.declared.machine.Machine.{Machine}
 use Rattle.controller_machine.specs.declared.ctl.Played.{Played}
-use Rattle.controller_machine.specs.Ctl.{CtlState}
+use Rattle.controller_machine.specs.Alone.{Shown}
+use Rattle.controller_machine.specs.Laws.{LogsStandInOrder, PassesDeed, PassesStmt, PlaysAreEvents}
 use Rattle.controller_machine.specs.Last.{IsLast}
-use Rattle.controller_machine.specs.Log.{log_of, timeline_of}
-use Rattle.controller_machine.proofs.Ordered.{logs-ordered}
-use Rattle.controller_machine.proofs.Timeline.{timeline-logs}
-use Rattle.timeline_board.specs.Order.{IsInOrder, all_of, logs_planned}
-use Rattle.timeline_board.specs.Report.{MergeIsTimeline, ReportIsRun, report_text, run_text}
+use Rattle.controller_machine.specs.Log.{log_of, logs_planned, play_key, timeline_of}
+use Rattle.timeline_board.specs.Conditions.{HasNames, HasNamesOf, HasWave, IsNamed, LogsHaveNames}
+use Rattle.timeline_board.specs.Order.{IsInOrder, IsMerge, comes_before, in_time_order}
+use Rattle.timeline_board.specs.Report.{MergeIsTimeline, ReportIsRun, report_of, report_text}
+use Rattle.timeline_board.proofs.Keys.{ties-port}
 use Rattle.timeline_board.proofs.Merges.{merge-orders}
+use Rattle.timeline_board.proofs.Shares.{made-at, port-share}
+use Rattle.timeline_board.proofs.TimeOrder.{time-order-once}
 
--- What the log of all planned acts of each controller meets, all these logs meet.
-pub planned-all : (P : List Played → Type 0) (plan : Plan) (tape : Tape) → ((k : ℕ) → P (log_of (planned_acts plan tape k))) → All P (logs_planned plan tape)
-planned-all P plan tape each = All-map P (λ k. log_of (planned_acts plan tape k)) (range_with_len 0 plan.controllers) (λ k d within. each _)
+-- Merged, all planned logs are the timeline in order.
+pub merged-planned : LogsStandInOrder → MergeIsTimeline
+merged-planned logs_stand plan tape entries sound merged =
+    let f : ℕ → List Played = λ k. log_of (planned_acts plan tape k) in
+    let ordered = merge-orders (logs_planned plan tape) entries
+    (λ k log at. subst IsInOrder (sym (made-at f plan.controllers 0 k log at)) (logs_stand plan tape (0 + k) sound)) merged in
+    time-order-once entries (timeline_of (run_of plan tape).trace) ordered.order
+    (λ x. port-share plan tape entries (ties comes_before x) x.port sound (λ p tie. ties-port x p tie) merged)
 
--- each of these logs stands in order
-planned-order : (plan : Plan) (tape : Tape) → IsSound plan → (k : ℕ) (log : List Played) → slice_get (logs_planned plan tape) k ≡ Some log → IsInOrder log
-planned-order plan tape sound k log at =
-    let logs : List (List Played) = logs_planned plan tape in
-    subst IsInOrder (get_or_from_slice_get logs k log [] at)
-    (All-get_or IsInOrder logs k [] (slice_get_within logs k log at) (planned-all IsInOrder plan tape (λ j. logs-ordered plan tape j sound)))
+-- Reported with the hub's last state, they give the report of the run.
+pub report-is-run : MergeIsTimeline → ReportIsRun
+report-is-run is_timeline plan tape machine entries hub sound merged last =
+    rw (is_timeline plan tape entries sound merged, last.store, last.tick, last.ending) refl
 
--- their entries are the timeline's, in another order
-planned-timeline : (plan : Plan) (tape : Tape) → IsSound plan → IsPermutation (timeline_of (run_of plan tape).trace) (all_of (logs_planned plan tape))
-planned-timeline plan tape sound =
-    subst (IsPermutation (timeline_of (run_of plan tape).trace)) (sym (flat_map-map (λ log. log) (λ k. log_of (planned_acts plan tape k)) (range_with_len 0 plan.controllers)))
-    (timeline-logs plan tape sound)
+-- ---- names
 
--- Merged, they are the timeline in order.
-pub merged-planned : MergeIsTimeline
-merged-planned plan tape entries sound merged =
-    let ordered = merge-orders (logs_planned plan tape) entries (planned-order plan tape sound) merged in
-    record { all = IsPermutation-trans _ _ _ (planned-timeline plan tape sound) ordered.all; order = ordered.order }
+-- whether a machine has this port and this waveform
+abbrev has : Machine → ℕ → ℕ → Bool
+has machine port wave = nat_lt port (length machine.ports) && nat_lt wave (length machine.waveforms)
 
--- the text of a report is that of the run whose last state the hub has
-text-of-last : (plan : Plan) (tape : Tape) (machine : Machine) (entries : List Played) (hub : CtlState) → IsLast plan tape hub
-    → report_text plan machine entries hub ≡ run_text plan machine entries (run_of plan tape)
-text-of-last plan tape machine entries hub last = rw (last.store, last.tick, last.ending) refl
+deed-passes : (machine : Machine) (port : ℕ) (d : Deed) → nat_lt port (length machine.ports) ≡ true → HasWave (length machine.waveforms) d → PassesDeed (has machine) port d
+deed-passes machine port (Pulse frame wave) port_has wave_has = let wave_lt : nat_lt wave (length machine.waveforms) ≡ true = grind (arith, nat_tests) in rw (port_has, wave_lt) refl
 
-pub report-is-run : ReportIsRun
-report-is-run plan tape machine entries hub sound merged last = record {
-  entries = entries;
-  ordered = merged-planned plan tape entries sound merged;
-  lines = text-of-last plan tape machine entries hub last;
-}
+stmt-passes : (machine : Machine) (stmt : PlanStmt) → HasNamesOf machine stmt → PassesStmt (has machine) stmt
+stmt-passes machine (Block b) names =
+    All-weaker (λ e. (e.port < length machine.ports) × HasWave (length machine.waveforms) e.act) (λ e. PassesDeed (has machine) e.port e.act)
+    (λ e h. let port_lt : nat_lt e.port (length machine.ports) ≡ true = let low = h.0 in grind (arith, nat_tests) in deed-passes machine e.port e.act port_lt h.1) b.events names
+
+named : (machine : Machine) (p : Played) → has machine p.port p.wave ≡ true → IsNamed machine p
+named machine p passes = record { port = grind (arith, nat_tests); wave = grind (arith, nat_tests) }
+
+-- A machine with the names of a plan has those of all planned logs.
+pub logs-have-names : PlaysAreEvents → LogsHaveNames
+logs-have-names events machine plan tape names =
+    All-map (λ log. All (IsNamed machine) log) (λ k. log_of (planned_acts plan tape k)) (range_with_len 0 plan.controllers)
+    (λ k d within. All-weaker (λ p. has machine p.port p.wave ≡ true) (IsNamed machine) (named machine) _
+    (events (has machine) plan tape _ (All-weaker (HasNamesOf machine) (PassesStmt (has machine)) (stmt-passes machine) plan.body names)))

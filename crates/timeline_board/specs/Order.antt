@@ -1,27 +1,24 @@
 -- Entries of several logs in one order: by tick and then by port number. This project's own.
-use Rattle.std.specs.Prelude.{◌≡◌, ℕ, List, [], ◌∷◌, map, slice_get, slice_set, Option, Some, None, false}
-use Rattle.std.specs.List.{flat_map, range_with_len}
+use Rattle.std.specs.Prelude.{◌≡◌, ℕ, List, [], ◌∷◌, map, slice_get, slice_set, if◌then◌else◌, Bool, false, Option, Some, None}
+use Rattle.std.specs.List.{flat_map}
 use Rattle.std.specs.List.Sorted.{IsPermutation, IsSortedByKey}
 use Rattle.std.specs.Ordering.{is_lt}
-use Rattle.qs_values.specs.declared.tape.Tape.{Tape}
-use Rattle.plan_tree.specs.declared.plan.Plan.{Plan}
-use Rattle.plan_tree.specs.Acts.{planned_acts}
 use Rattle.plan_tree.specs.Sound.{start_cmp}
 use Rattle.controller_machine.specs.Ctl.{CtlState}
-use Rattle.controller_machine.specs.Log.{log_of, play_key}
+use Rattle.controller_machine.specs.Log.{play_key}
 use Rattle.controller_machine.specs.declared.ctl.Played.{Played}
 
 -- the logs of controllers
 abbrev pub logs_of : List CtlState → List (List Played)
 logs_of states = map (λ c. c.log) states
 
--- the logs of controllers that have made all of their planned acts
-abbrev pub logs_planned : Plan → Tape → List (List Played)
-logs_planned plan tape = map (λ k. log_of (planned_acts plan tape k)) (range_with_len 0 plan.controllers)
+-- whether an entry comes before another: by tick, and at one tick by port number
+abbrev pub comes_before : Played → Played → Bool
+comes_before p q = is_lt (start_cmp (play_key p) (play_key q))
 
 -- an entry doesn't come before another
 abbrev pub IsNotBefore : Played → Played → Type 0
-IsNotBefore q p = is_lt (start_cmp (play_key q) (play_key p)) ≡ false
+IsNotBefore q p = comes_before q p ≡ false
 
 -- No first entry that is left comes before this one.
 abbrev pub IsFirst : List (List Played) → Played → Type 0
@@ -53,6 +50,16 @@ IsMerge (p ∷ ps) lefts = (rest : List (List Played)) × Gives lefts rest p × 
 abbrev pub IsInOrder : List Played → Type 0
 IsInOrder log = IsSortedByKey play_key start_cmp log
 
+-- an entry put among entries: after those in front that come before it
+abbrev pub put_in : Played → List Played → List Played
+put_in p [] = p ∷ []
+put_in p (q ∷ qs) = if comes_before q p then q ∷ put_in p qs else p ∷ q ∷ qs
+
+-- entries by tick, then by port number, then as they stood
+abbrev pub in_time_order : List Played → List Played
+in_time_order [] = []
+in_time_order (p ∷ ps) = put_in p (in_time_order ps)
+
 -- the entries of all logs
 abbrev pub all_of : List (List Played) → List Played
 all_of logs = flat_map (λ log. log) logs
@@ -61,6 +68,10 @@ all_of logs = flat_map (λ log. log) logs
 pub record IsOrdered (entries ordered : List Played) : Type 0 where
   pub all : IsPermutation entries ordered
   pub order : IsInOrder ordered
+
+-- Entries that are put in order are all of them, in order.
+abbrev pub TimeOrderOrders : Type 0
+TimeOrderOrders = (entries : List Played) → IsOrdered entries (in_time_order entries)
 
 -- Logs that stand in order are merged to all of their entries in order.
 abbrev pub MergeOrders : Type 0

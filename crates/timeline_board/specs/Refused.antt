@@ -46,7 +46,7 @@ abbrev pub place_text : Option Span → List ℕ
 place_text None = []
 place_text (Some place) = codes " " ++ decimal place.line ++ codes ":" ++ decimal place.col
 
--- a word behind the name
+-- a word after the name
 abbrev pub word_text : List ℕ → List ℕ
 word_text word = codes " " ++ word
 

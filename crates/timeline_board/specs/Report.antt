@@ -10,12 +10,12 @@ use Rattle.plan_tree.specs.Run.{Outcome, run_of}
 use Rattle.plan_tree.specs.Sound.{IsSound}
 use Rattle.qs_machine.specs.declared.machine.Machine.{Machine}
 use Rattle.controller_machine.specs.declared.ctl.Played.{Played}
-use Rattle.controller_machine.specs.declared.ctl.Ending.{Ending}
-use Rattle.controller_machine.specs.declared.ctl.Ending.TheVariants.{Going, Done}
-use Rattle.controller_machine.specs.Ctl.{CtlState}
+use Rattle.controller_machine.specs.declared.stand.Ending.{Ending}
+use Rattle.controller_machine.specs.declared.stand.Ending.TheVariants.{Going, Done}
+use Rattle.controller_machine.specs.Alone.{Shown}
 use Rattle.controller_machine.specs.Last.{IsLast, ending_as}
-use Rattle.controller_machine.specs.Log.{timeline_of}
-use Rattle.timeline_board.specs.Order.{IsMerge, IsOrdered, logs_planned}
+use Rattle.controller_machine.specs.Log.{logs_planned, timeline_of}
+use Rattle.timeline_board.specs.Order.{IsMerge, in_time_order}
 
 -- the name of this number
 abbrev pub name_at : List (List ℕ) → ℕ → List ℕ
@@ -70,28 +70,24 @@ ending_word Done = codes "done"
 abbrev pub end_line : ℕ → Ending → List ℕ
 end_line tick ending = codes "end " ++ decimal tick ++ codes " " ++ ending_word ending ++ codes "\n"
 
--- the report of these entries, with the outputs and the end of the hub
-abbrev pub report_text : Plan → Machine → List Played → CtlState → List ℕ
+-- the report of these entries, with the outputs and the end that the hub shows
+abbrev pub report_text : Plan → Machine → List Played → Shown → List ℕ
 report_text plan machine entries hub =
-    flat_map (entry_line machine) entries ++ flat_map (out_line hub.store) plan.outs ++ end_line hub.spot.tick hub.ending
+    flat_map (entry_line machine) entries ++ flat_map (out_line hub.store) plan.outs ++ end_line hub.tick hub.ending
 
--- these entries, the outputs from the run's last store, and its end
-abbrev pub run_text : Plan → Machine → List Played → Outcome → List ℕ
-run_text plan machine entries run =
-    flat_map (entry_line machine) entries ++ flat_map (out_line run.store) plan.outs ++ end_line run.tick (ending_as run.ending)
+-- the report of a run: its timeline by tick and then by port number, the outputs from its last store, and its end
+abbrev pub report_of : Plan → Machine → Outcome → List ℕ
+report_of plan machine run =
+    flat_map (entry_line machine) (in_time_order (timeline_of run.trace))
+    ++ flat_map (out_line run.store) plan.outs ++ end_line run.tick (ending_as run.ending)
 
--- the report of a run: its timeline by tick and then by port number
-pub record IsReport (plan : Plan) (machine : Machine) (run : Outcome) (text : List ℕ) : Type 0 where
-  pub entries : List Played
-  pub ordered : IsOrdered (timeline_of run.trace) entries
-  pub lines : text ≡ run_text plan machine entries run
-
--- The merged logs of controllers that have made all of their planned acts are the timeline of the undivided run, by tick and then by port number.
+-- The merged logs of controllers that have made all of their planned acts are the timeline of the undivided run, in order.
 abbrev pub MergeIsTimeline : Type 0
-MergeIsTimeline = (plan : Plan) (tape : Tape) (entries : List Played)
-    → IsSound plan → IsMerge entries (logs_planned plan tape) → IsOrdered (timeline_of (run_of plan tape).trace) entries
+MergeIsTimeline = (plan : Plan) (tape : Tape) (entries : List Played) → IsSound plan
+    → IsMerge entries (logs_planned plan tape) → entries ≡ in_time_order (timeline_of (run_of plan tape).trace)
 
 -- The merged logs of controllers that have made all of their planned acts, reported with the hub's last state, are the report of the undivided run.
 abbrev pub ReportIsRun : Type 0
-ReportIsRun = (plan : Plan) (tape : Tape) (machine : Machine) (entries : List Played) (hub : CtlState)
-    → IsSound plan → IsMerge entries (logs_planned plan tape) → IsLast plan tape hub → IsReport plan machine (run_of plan tape) (report_text plan machine entries hub)
+ReportIsRun = (plan : Plan) (tape : Tape) (machine : Machine) (entries : List Played) (hub : Shown) → IsSound plan
+    → IsMerge entries (logs_planned plan tape) → IsLast plan tape hub
+    → report_text plan machine entries hub ≡ report_of plan machine (run_of plan tape)

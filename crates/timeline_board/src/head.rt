@@ -1,10 +1,7 @@
 ghost use Rattle.std.specs.Prelude.{◌≡◌, ◌+◌, ◌<◌, List, length, slice_get};
-ghost use Rattle.std.specs.Ordering.{is_lt};
-ghost use Rattle.plan_tree.specs.Sound.{start_cmp};
 ghost use Rattle.controller_machine.specs.declared.ctl.Played.{Played as Entry};
-ghost use Rattle.controller_machine.specs.Log.{play_key};
-ghost use Rattle.timeline_board.specs.Order.{logs_of};
-ghost use Rattle.timeline_board.specs.Merging.{IsFirstOf, lefts_of};
+ghost use Rattle.timeline_board.specs.Order.{comes_before, logs_of};
+ghost use Rattle.timeline_board.specs.steps.Merging.{IsFirstOf, lefts_of};
 
 use controller_machine::{Ctls, Played};
 
@@ -17,7 +14,8 @@ pub struct Head {
 
 /// Of the entries that stand first in what is left of each log, the one that comes first.
 pub fn first_head<L: Ctls>(ctls: &L, places: &[usize; 16]) -> Option<Head>
-    ensures first { IsFirstOf (lefts_of (logs_of (L.states ctls.now)) places.now) (length (L.states ctls.now)) result }
+    ensures first { IsFirstOf (lefts_of (logs_of (L.states ctls.now)) places.now)
+        (length (L.states ctls.now)) result }
     ensures few { length (L.states ctls.now) < 17 }
 {
     let mut first = None;
@@ -35,9 +33,12 @@ fn left_of(log: &[Played], given: usize) -> Option<Played>
     log.get(given).copied()
 }
 
-/// The one that comes first of the first entries of the logs up to this one, by that of the logs before it.
+/// The one that comes first of the first entries of the logs up to this one, by that of the logs
+/// before it.
 fn earlier(first: Option<Head>, log: u8, entry: Option<Played>) -> Option<Head>
-    ensures { (lefts : List (List Entry)) (left : List Entry) → IsFirstOf lefts log first → slice_get lefts log ≡ Some left → entry ≡ slice_get left 0 → IsFirstOf lefts (log + 1) result }
+    ensures { (lefts : List (List Entry)) (left : List Entry) → IsFirstOf lefts log first
+        → slice_get lefts log ≡ Some left → entry ≡ slice_get left 0
+        → IsFirstOf lefts (log + 1) result }
 {
     let Some(entry) = entry else {
         return first;
@@ -54,7 +55,7 @@ fn earlier(first: Option<Head>, log: u8, entry: Option<Played>) -> Option<Head>
 
 /// Whether an entry comes before another: by tick, and at one tick by port.
 fn comes_before(entry: &Played, other: &Played) -> bool
-    ensures { result ≡ is_lt (start_cmp (play_key entry.now) (play_key other.now)) }
+    ensures { result ≡ comes_before entry.now other.now }
 {
     (entry.tick, entry.port) < (other.tick, other.port)
 }

@@ -9,11 +9,11 @@ mod merging;
 mod names;
 mod refusals;
 mod reports;
-#[cfg(test)]
-mod tests;
 mod timeline;
 
-pub use laws::{merge_is_timeline, merge_orders, report_is_run};
+pub use laws::{
+    logs_have_names, merge_is_timeline, merge_orders, report_is_run, time_order_orders,
+};
 pub use merging::Merge;
 pub use refusals::refused;
 pub use reports::report;

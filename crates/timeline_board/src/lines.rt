@@ -13,7 +13,8 @@ use qs_values::{Kind, Out, Ty};
 /// The line of an entry of the timeline.
 pub fn put_entry<K: Sink>(page: &mut TextBuffer, sink: &mut K, machine: &Machine, played: &Played)
     requires { IsNamed machine.now played.now }
-    ensures { GoesOn (K.state sink.old) page.old (K.state sink.new) page.new (entry_line machine.now played.now) }
+    ensures { GoesOn (K.state sink.old) page.old (K.state sink.new) page.new
+        (entry_line machine.now played.now) }
 {
     page.text(sink, entry_word(played.bit));
     page.number(sink, played.tick);
@@ -65,7 +66,8 @@ fn wave_name(machine: &Machine, wave: u16) -> &str
 /// The lines of outputs, whose values a store has.
 pub fn put_outs<K: Sink>(page: &mut TextBuffer, sink: &mut K, store: &[u64], outs: &[Out])
     requires { All (λ o. HoldsValue store.now o.first o.ty.kind o.ty.width) outs.now }
-    ensures { GoesOn (K.state sink.old) page.old (K.state sink.new) page.new (flat_map (out_line store.now) outs.now) }
+    ensures { GoesOn (K.state sink.old) page.old (K.state sink.new) page.new
+        (flat_map (out_line store.now) outs.now) }
 {
     for out in outs {
         put_out(page, sink, store, out);
@@ -75,7 +77,8 @@ pub fn put_outs<K: Sink>(page: &mut TextBuffer, sink: &mut K, store: &[u64], out
 /// The line of an output.
 fn put_out<K: Sink>(page: &mut TextBuffer, sink: &mut K, store: &[u64], out: &Out)
     requires { HoldsValue store.now out.now.first out.now.ty.kind out.now.ty.width }
-    ensures { GoesOn (K.state sink.old) page.old (K.state sink.new) page.new (out_line store.now out.now) }
+    ensures { GoesOn (K.state sink.old) page.old (K.state sink.new) page.new
+        (out_line store.now out.now) }
 {
     page.text(sink, b"out ");
     page.text(sink, out.name.as_str().as_bytes());
@@ -87,7 +90,8 @@ fn put_out<K: Sink>(page: &mut TextBuffer, sink: &mut K, store: &[u64], out: &Ou
 /// The value of a type that stands in a store from this variable on.
 fn put_value<K: Sink>(page: &mut TextBuffer, sink: &mut K, store: &[u64], first: u32, ty: Ty)
     requires { HoldsValue store.now first ty.kind ty.width }
-    ensures { GoesOn (K.state sink.old) page.old (K.state sink.new) page.new (value_text store.now first ty.kind ty.width) }
+    ensures { GoesOn (K.state sink.old) page.old (K.state sink.new) page.new
+        (value_text store.now first ty.kind ty.width) }
 {
     match ty.kind {
         Kind::Bits => put_bits(page, sink, store, first, ty.width),
@@ -101,7 +105,8 @@ fn put_value<K: Sink>(page: &mut TextBuffer, sink: &mut K, store: &[u64], first:
 /// So many bits of a store from this one on, the last one first.
 fn put_bits<K: Sink>(page: &mut TextBuffer, sink: &mut K, store: &[u64], first: u32, width: u8)
     requires { (i : ℕ) → i < width → first + i < length store.now }
-    ensures { GoesOn (K.state sink.old) page.old (K.state sink.new) page.new (digits_from store.now first width) }
+    ensures { GoesOn (K.state sink.old) page.old (K.state sink.new) page.new
+        (digits_from store.now first width) }
 {
     for i in (0..width).rev() {
         page.number(sink, store[first as usize + i as usize]);
@@ -113,7 +118,8 @@ fn put_signed<K: Sink>(page: &mut TextBuffer, sink: &mut K, width: u8, value: u6
     requires some { 1 ≤ width }
     requires few { width ≤ 64 }
     requires within { value < 2 ^ width }
-    ensures { GoesOn (K.state sink.old) page.old (K.state sink.new) page.new (signed_text width value) }
+    ensures { GoesOn (K.state sink.old) page.old (K.state sink.new) page.new
+        (signed_text width value) }
 {
     let half = 1 << (width - 1);
     if value < half {
@@ -126,7 +132,8 @@ fn put_signed<K: Sink>(page: &mut TextBuffer, sink: &mut K, width: u8, value: u6
 
 /// The last line of a report.
 pub fn put_end<K: Sink>(page: &mut TextBuffer, sink: &mut K, tick: u64, ending: Ending)
-    ensures { GoesOn (K.state sink.old) page.old (K.state sink.new) page.new (end_line tick ending) }
+    ensures { GoesOn (K.state sink.old) page.old (K.state sink.new) page.new
+        (end_line tick ending) }
 {
     page.text(sink, b"end ");
     page.number(sink, tick);

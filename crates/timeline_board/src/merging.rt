@@ -19,7 +19,7 @@ impl<'a, L: Ctls> Model for Merge<'a, L> {
     ghost Value = { List (List Played) };
 
     ghost use Rattle.timeline_board.specs.Order.{logs_of};
-    ghost use Rattle.timeline_board.specs.Merging.{lefts_of};
+    ghost use Rattle.timeline_board.specs.steps.Merging.{lefts_of};
 
     ghost view = { λ m. lefts_of (logs_of (L.states m.ctls.now)) m.places };
 }
@@ -32,7 +32,7 @@ impl<'a, L: Ctls> Merge<'a, L> {
         ensures { NextIs self.old self.new result }
     {
         let head = first_head(self.ctls, &self.places)?;
-        // The log is a slice, so the place behind one of its entries fits.
+        // The log is a slice, so the place after one of its entries fits.
         let _count = self.ctls.ctl(head.log).log().len();
         self.places[head.log as usize] += 1;
         Some(head.entry)

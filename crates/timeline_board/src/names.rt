@@ -108,7 +108,8 @@ pub fn name_of_code(code: u16) -> Option<&'static str>
 
 /// The name of a code in a table.
 fn find_name(names: &'static [(u16, &'static str)], code: u16) -> Option<&'static str>
-    ensures { option_map (λ name. name.now) result ≡ name_in (map (λ n. (n.0, n.1.now)) names.now) code }
+    ensures { option_map (λ name. name.now) result
+        ≡ name_in (map (λ n. (n.0, n.1.now)) names.now) code }
 {
     for (number, name) in names {
         if *number == code {

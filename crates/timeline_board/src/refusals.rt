@@ -39,9 +39,10 @@ fn put_place<K: Sink>(page: &mut TextBuffer, sink: &mut K, place: Option<Span>)
     page.number(sink, span.col as u64);
 }
 
-/// Words, each behind a blank.
+/// Words, each after a blank.
 fn put_words<K: Sink>(page: &mut TextBuffer, sink: &mut K, words: &[Name])
-    ensures { GoesOn (K.state sink.old) page.old (K.state sink.new) page.new (flat_map word_text words.now) }
+    ensures { GoesOn (K.state sink.old) page.old (K.state sink.new) page.new
+        (flat_map word_text words.now) }
 {
     for word in words {
         page.text(sink, b" ");

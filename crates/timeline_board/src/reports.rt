@@ -27,7 +27,8 @@ pub fn report<L: Ctls, K: Sink>(
     requires names { AreNamed machine.now (logs_of (L.states ctls.now)) }
     requires store { HubHolds plan.now.vars (L.states ctls.now) }
     requires outs { All (λ o. HasVars plan.now.vars o.first o.ty.kind o.ty.width) plan.now.outs }
-    ensures { PutsReport plan.now machine.now (L.states ctls.now) (K.state sink.old) (K.state sink.new) result }
+    ensures { PutsReport plan.now machine.now (L.states ctls.now)
+        (K.state sink.old) (K.state sink.new) result }
 {
     let mut page = TextBuffer::new();
     put_timeline(&mut page, sink, machine, ctls);
@@ -40,7 +41,9 @@ pub fn report<L: Ctls, K: Sink>(
 /// The lines of all entries.
 fn put_timeline<L: Ctls, K: Sink>(page: &mut TextBuffer, sink: &mut K, machine: &Machine, ctls: &L)
     requires { AreNamed machine.now (logs_of (L.states ctls.now)) }
-    ensures { (entries : List Entry) × IsMerge entries (logs_of (L.states ctls.now)) × GoesOn (K.state sink.old) page.old (K.state sink.new) page.new (flat_map (entry_line machine.now) entries) }
+    ensures { (entries : List Entry) × IsMerge entries (logs_of (L.states ctls.now))
+        × GoesOn (K.state sink.old) page.old (K.state sink.new) page.new
+        (flat_map (entry_line machine.now) entries) }
 {
     let mut entries = merge(ctls);
     while let Some(played) = entries.next() {

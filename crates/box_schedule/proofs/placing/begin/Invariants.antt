@@ -1,5 +1,5 @@
 use Rattle.std.proofs.Common.{◌≡◌, ℕ, ◌<◌, max, drop, slice_index}
-use Rattle.box_schedule.specs.Clocks.{greatest}
+use Rattle.box_schedule.specs.steps.Clocks.{greatest}
 use Rattle.box_schedule.proofs.placing.begin.Given as goal
 
 abbrev pub invariant-loop-qubit : goal.invariant-loop-qubit

@@ -1,4 +1,4 @@
-use Rattle.controller_core.specs.Example.{IsReady}
+use Rattle.controller_core.specs.examples.Ready.{IsReady}
 use Rattle.controller_core.proofs.tests.steps_to_the_end_and_no_further.Given as goal
 
 abbrev pub invariant-loop-k : goal.invariant-loop-k

@@ -1,17 +1,18 @@
-use Rattle.std.proofs.Common.{◌≡◌, [], ap, refl, subst, ◌∙◌}
-use Rattle.qs_values.specs.declared.tape.Tape.{Tape}
-use Rattle.qs_machine.specs.BuiltIn.{built_in}
-use Rattle.controller_core.specs.Core.{Runs, start_core}
-use Rattle.qasm_main.specs.Ran.{no_tape}
+use Rattle.std.proofs.Common.{refl, subst}
+use Rattle.controller_core.specs.Core.{CoreState, Runs}
+use Rattle.controller_core.specs.Reached.{IsOver}
+use Rattle.qasm_main.proofs.RunLemmas.{reports-run}
 use Rattle.qasm_main.proofs.run.run.Goals as goal
 
 pub returns : goal.returns
 returns c =
-    let runs = c.run_order-counts.ensures.runs in
-    let tape : Tape = record { bits = c.new.result; inputs = c.new-2.result } in
-    let empty : tape ≡ no_tape = rw (c.new.ensures, c.new-2.ensures) refl in
+    let started = c.in_ok-core.ensures.start in
+    let core = c.run_order-counts.new.self in
+    let counts = c.run_order-counts.result in
+    let over = subst (λ (start : CoreState). IsOver start.plan start.tape start.mail core) started c.run_order-counts.ensures.over in
     record {
-      plan_same = refl;
-      reached = c.run_order-counts.ensures.reached;
-      runs = subst (λ start. Runs [] start c.run_order-counts.new.self c.run_order-counts.result.stepped c.run_order-counts.result.waited) (c.in_ok-core.ensures.start ∙ ap (λ m. start_core c.args.plan tape m.mail) c.requires.builtin ∙ ap (λ t. start_core c.args.plan t built_in.mail) empty) runs;
+      same = refl;
+      runs = subst (λ start. Runs c.args.order.now start core counts.stepped counts.waited) started c.run_order-counts.ensures.runs;
+      over = over;
+      report = reports-run c.report_is_run.ensures c.args.plan c.args.tape.now c.args.mail core c.requires.sound over;
     }

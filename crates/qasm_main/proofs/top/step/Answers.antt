@@ -1,14 +1,8 @@
-use Rattle.std.proofs.Common.{inl, inr, subst}
-use Rattle.qasm_main.specs.Answer.{TellsAlone, read_failed}
+use Rattle.std.proofs.Common.{subst, sym}
+use Rattle.std.specs.Prelude.{IsSome}
+use Rattle.timeline_board.specs.Refused.{name_of}
+use Rattle.qasm_main.proofs.FaultLemmas.{long-named}
 use Rattle.qasm_main.proofs.top.step.Goals as goal
 
-pub returns-in-Err-Failed : goal.returns-in-Err-Failed
-returns-in-Err-Failed g c =
-    let fault = rw c.in-Err-Failed.field-0-is at c.in-Err-Failed.ensures in
-    let told = subst (λ name. TellsAlone (g.K.Sink.state c.args.sink.now) (g.K.Sink.state c.tell.new.sink) (record { status = 4; text = read_failed name }) c.tell.result) c.as_bytes.ensures.value c.tell.ensures in
-    inl (record { rose = fault.0; failed = fault.1; told = told })
-
-pub returns-in-Err-Memory : goal.returns-in-Err-Memory
-returns-in-Err-Memory g c =
-    let same = rw c.in-Err-Memory.field-0-is at c.in-Err-Memory.ensures in
-    inr (same, inl (c.want_of_memory.ensures _))
+pub returns-in-Ok-clause-tellable : goal.returns-in-Ok-clause-tellable
+returns-in-Ok-clause-tellable g c = subst (λ r. IsSome (name_of r.code)) (sym c.in-Ok.ensures) long-named

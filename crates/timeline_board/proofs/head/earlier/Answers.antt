@@ -1,5 +1,5 @@
 use Rattle.std.proofs.Common.{subst, sym, ◌∙◌}
-use Rattle.timeline_board.specs.Merging.{IsFirstOf}
+use Rattle.timeline_board.specs.steps.Merging.{IsFirstOf}
 use Rattle.timeline_board.proofs.Heads.{first-earlier, first-empty, first-kept, first-new}
 use Rattle.timeline_board.proofs.head.earlier.Goals as goal
 

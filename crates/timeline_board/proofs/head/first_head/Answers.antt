@@ -1,7 +1,7 @@
 use Rattle.std.proofs.Common.{ap, drop, ◌∙◌}
 use Rattle.std.specs.Prelude.{slice_get, slice_index}
 use Rattle.timeline_board.specs.Order.{logs_of}
-use Rattle.timeline_board.specs.Merging.{lefts_of}
+use Rattle.timeline_board.specs.steps.Merging.{lefts_of}
 use Rattle.timeline_board.proofs.Lefts.{lefts-at, logs-at, next-left}
 use Rattle.timeline_board.proofs.head.first_head.Goals as goal
 

@@ -1,5 +1,5 @@
 use Rattle.timeline_board.specs.Order.{logs_of}
-use Rattle.timeline_board.specs.Merging.{IsFirstOf, lefts_of}
+use Rattle.timeline_board.specs.steps.Merging.{IsFirstOf, lefts_of}
 use Rattle.timeline_board.proofs.head.first_head.Given as goal
 
 abbrev pub invariant-loop-k : goal.invariant-loop-k

@@ -1,10 +1,11 @@
 use Rattle.std.proofs.Common.{ap, subst, sym, ◌∙◌}
 use Rattle.std.specs.Prelude.{All, IsSomeAnd}
 use Rattle.std.specs.List.{flat_map}
-use Rattle.outside.proofs.Texts.{goes-as, goes-then}
+use Rattle.timeline_board.proofs.Pages.{goes-as, goes-then}
+use Rattle.controller_machine.specs.Ctl.{shown_of}
 use Rattle.timeline_board.specs.Conditions.{HoldsValue, HoldsVars}
 use Rattle.timeline_board.specs.Report.{end_line, out_line}
-use Rattle.timeline_board.proofs.LineLemmas.{at-end}
+use Rattle.timeline_board.proofs.Pages.{at-end}
 use Rattle.timeline_board.proofs.ValueLemmas.{holds-outs}
 use Rattle.timeline_board.proofs.reports.report.Goals as goal
 
@@ -21,7 +22,7 @@ returns g c =
     let hub = c.hub_of-hub.result.now in
     let timeline = c.put_timeline.ensures in
     let outs = goes-as {xs = flat_map (out_line c.store.result.now) c.as_slice.result.now} c.put_outs.ensures (ap (λ store. flat_map (out_line store) c.as_slice.result.now) c.store.ensures ∙ ap (flat_map (out_line hub.store)) c.as_slice.ensures) in
-    let end = goes-as {xs = end_line c.tick.result c.ending.result} c.put_end.ensures (ap (λ tick. end_line tick c.ending.result) c.tick.ensures ∙ ap (end_line hub.spot.tick) c.ending.ensures) in
+    let end = goes-as {xs = end_line c.tick.result c.ending.result} c.put_end.ensures (ap (λ tick. end_line tick c.ending.result) c.tick.ensures ∙ ap (end_line (shown_of hub).tick) c.ending.ensures) in
     record {
       entries = timeline.0;
       hub = hub;

@@ -2,7 +2,7 @@ use Rattle.std.proofs.Common.{ap, ◌≡◌, ◌+◌, ◌^◌, ◌<◌, length, 
 use Rattle.std.specs.Prelude.{slice_index, slice_set, None}
 use Rattle.std.proofs.lemmas.List.{length-map}
 use Rattle.timeline_board.specs.Order.{Gives, NextIs, logs_of}
-use Rattle.timeline_board.specs.Merging.{lefts_of}
+use Rattle.timeline_board.specs.steps.Merging.{lefts_of}
 use Rattle.timeline_board.proofs.Lefts.{given-within, logs-at, next-given, next-none}
 use Rattle.timeline_board.proofs.merging.Merge.next.Goals as goal
 

@@ -1,6 +1,0 @@
-use Rattle.std.proofs.Common.{◌≡◌, ◌++◌, drop}
-use Rattle.qasm_main.specs.Compiled.{owners_of}
-use Rattle.qasm_main.proofs.compile.owners_of.Given as goal
-
-abbrev pub invariant-loop-port : goal.invariant-loop-port
-invariant-loop-port l = l.all.items ++ owners_of (drop l.port-index l.ports) ≡ owners_of l.ports

@@ -1,0 +1,9 @@
+use Rattle.qasm_main.specs.Texts.{usage}
+use Rattle.qasm_main.proofs.Pages.{at-end}
+use Rattle.qasm_main.proofs.telling.put_usage.Goals as goal
+
+pub returns : goal.returns
+unfolding usage
+returns g c =
+    let start = g.K.Sink.state c.args.sink.now in
+    c.finish.ensures start _ (at-end _ _ _ _ _ c.new-page.ensures c.text.ensures)

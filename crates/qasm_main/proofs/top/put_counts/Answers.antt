@@ -1,9 +1,0 @@
-use Rattle.outside.proofs.Texts.{goes-then}
-use Rattle.qasm_main.proofs.Telling.{whole}
-use Rattle.qasm_main.proofs.top.put_counts.Goals as goal
-
-pub returns : goal.returns
-returns g c =
-    let start = g.K.Sink.state c.args.sink.now in
-    let text = goes-then (goes-then (goes-then (goes-then c.text.ensures c.number.ensures) c.text-2.ensures) c.number-2.ensures) c.text-3.ensures in
-    c.finish.ensures start _ (whole c.new-page.ensures text)

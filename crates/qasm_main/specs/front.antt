@@ -1,0 +1,8 @@
+pub mod Statement
+pub mod Source
+pub mod Spelled
+pub mod Refused
+pub mod Reads
+pub mod Gates
+pub mod Planned
+pub mod Compile
