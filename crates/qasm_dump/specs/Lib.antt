@@ -1,0 +1,5 @@
+pub mod Words
+pub mod Tokens
+pub mod Refusals
+pub mod Output
+pub mod Answer

@@ -1,0 +1,37 @@
+-- What each pass makes of a source, or refuses it with, and the text of what it makes. This project's own.
+use Rattle.std.specs.Prelude.{ℕ, List, Result, Ok, Err}
+use Rattle.qs_values.specs.declared.refusal.Refusal.{Refusal}
+use Rattle.qs_values.specs.declared.refusal.Halt.{Halt}
+use Rattle.qs_values.specs.declared.refusal.Halt.TheVariants.{Refused, Memory}
+use Rattle.qs_lexer.specs.declared.token.Token.{Token}
+use Rattle.qs_lexer.specs.Lexed.{Lexes}
+use Rattle.qasm_dump.specs.declared.output.Pass.{Pass}
+use Rattle.qasm_dump.specs.declared.output.Pass.TheVariants as pass
+use Rattle.qasm_dump.specs.declared.output.Output.{Output}
+use Rattle.qasm_dump.specs.declared.output.Output.TheVariants as output
+use Rattle.qasm_dump.specs.Refusals.{IsFaulty}
+use Rattle.qasm_dump.specs.Tokens.{tokens_text}
+
+-- A pass makes this of a source.
+abbrev pub Makes : Pass → List ℕ → Output → Type 0
+Makes pass.Tokens bytes (output.Tokens tokens) = Lexes bytes tokens
+
+-- A pass refuses a source with this.
+abbrev pub Refuses : Pass → List ℕ → Refusal → Type 0
+Refuses pass.Tokens bytes refusal = IsFaulty bytes refusal
+
+-- What a pass comes to on a source: what it makes, or its refusal. Running out of memory is free.
+abbrev pub OutputIs : Pass → List ℕ → Result Output Halt → Type 0
+OutputIs p bytes (Ok made) = Makes p bytes made
+OutputIs p bytes (Err (Refused refusal)) = Refuses p bytes refusal
+OutputIs p bytes (Err Memory) = Unit {0}
+
+-- the same of the lexer alone
+abbrev pub LexedIs : List ℕ → Result (List Token) Halt → Type 0
+LexedIs bytes (Ok tokens) = Lexes bytes tokens
+LexedIs bytes (Err (Refused refusal)) = IsFaulty bytes refusal
+LexedIs bytes (Err Memory) = Unit {0}
+
+-- the text of what a pass makes
+abbrev pub output_text : Output → List ℕ
+output_text (output.Tokens tokens) = tokens_text tokens
