@@ -26,3 +26,7 @@ pub mod CompleteStmtParts
 pub mod CompleteStmtNames
 pub mod CompleteStmtCalls
 pub mod CompleteStmtSimple
+pub mod CompleteStmtCases
+pub mod CompleteStarts
+pub mod CompleteTop
+pub mod CompleteRefusals
