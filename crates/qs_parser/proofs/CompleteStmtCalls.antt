@@ -61,7 +61,7 @@ complete-value_at v below d renew left after front rest h k f s c = value_read v
 
 -- ---- modifiers
 
-data ModifierCase : Modifier → Type 0 where
+pub data ModifierCase : Modifier → Type 0 where
   is_inv : ModifierCase Inv
   is_pow : (exponent : Expr) → ModifierCase (Pow exponent)
   is_ctrl : (count : Option Expr) → ModifierCase (Ctrl count)

@@ -26,3 +26,6 @@ pub mod CompleteStmtParts
 pub mod CompleteStmtNames
 pub mod CompleteStmtCalls
 pub mod CompleteStmtSimple
+pub mod CompleteStmtCases
+pub mod CompleteStmtFirst
+pub mod CompleteStmtAssign
