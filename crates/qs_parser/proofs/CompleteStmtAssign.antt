@@ -106,8 +106,17 @@ read-declare type n below d renew left after front rest h f s =
 
 -- ---- assignments
 
+-- what stands after the place says which assignment it is
+place_assigns : (below : Option Readers) (renew left : ℕ) (ts : List Token) (p : Place) (fewer : ℕ) (us vs : List Token) → place_at below renew left ts ≡ Some (p, fewer, us) → after_sign (codes "=") us ≡ Some vs → assignment_at below renew left ts ≡ assigned below p renew fewer vs
+unfolding assignment_at
+place_assigns below renew left ts p fewer us vs e f = rw (assignment_at, e) (ap (λ (o : Option (List Token)). elim o [ Some rest ↦ assigned below p renew fewer rest | None ↦ updated below p renew fewer us ]) f)
+
+place_updates : (below : Option Readers) (renew left : ℕ) (ts : List Token) (p : Place) (fewer : ℕ) (us : List Token) → place_at below renew left ts ≡ Some (p, fewer, us) → after_sign (codes "=") us ≡ None → assignment_at below renew left ts ≡ updated below p renew fewer us
+unfolding assignment_at
+place_updates below renew left ts p fewer us e f = rw (assignment_at, e) (ap (λ (o : Option (List Token)). elim o [ Some rest ↦ assigned below p renew fewer rest | None ↦ updated below p renew fewer us ]) f)
+
 assign_read : (p : Place) (v : Value) (below : Option Readers) (d renew left after : ℕ) (front rest : List Token) → IsCompleteBelow d below → Fits (both (of_place p) (of_value v)) d renew left after → Spells (spell_place p ++ (sign (codes "=") ++ (spell_value v ++ sign (codes ";")))) front → assignment_at below renew left (front ++ rest) ≡ Some (Assign p v, after, rest)
-unfolding assignment_at assigned
+unfolding assigned
 assign_read p v below d renew left after front rest h f s =
     let last : List Piece = spell_value v ++ sign (codes ";") in
     let fs = fits_both (of_place p) (of_value v) d renew left after f in
@@ -116,7 +125,7 @@ assign_read p v below d renew left after front rest h f s =
     let one = after_sign_at (codes "=") last n1.last rest n1.spells_last in
     let n2 = next (spell_value v) (sign (codes ";")) one.front rest one.spells in
     let r2 = ap (value_at below renew fs.between) n2.is ∙ complete-value_at v below d renew fs.between after n2.first (n2.last ++ rest) h (reads_expr below d h) fs.second n2.spells_first (closes_before n2.last rest n2.spells_last) in
-    ap (assignment_at below renew left) n1.is ∙ rw (assignment_at, r1, one.is, r2) (complete-stopped (Assign p v) after n2.last rest n2.spells_last)
+    ap (assignment_at below renew left) n1.is ∙ place_assigns below renew left (n1.first ++ (n1.last ++ rest)) p fs.between (n1.last ++ rest) (one.front ++ rest) r1 one.is ∙ rw (assigned, r2) (complete-stopped (Assign p v) after n2.last rest n2.spells_last)
 
 -- the signs of operators that assign
 no_equals : (op : AssignOp) → bytes_eq (sign_of_assign op) (codes "=") ≡ false
@@ -169,7 +178,7 @@ op_left op ps (t ∷ ts) rest s =
     record { last = ts; is = rw (k, e, op_of_sign op) refl; spells = s.1 }
 
 update_read : (p : Place) (op : AssignOp) (e : Expr) (below : Option Readers) (d renew left after : ℕ) (front rest : List Token) → IsCompleteBelow d below → Fits (both (of_place p) (of_expr e)) d renew left after → Spells (spell_place p ++ (sign (sign_of_assign op) ++ (spell e ++ sign (codes ";")))) front → assignment_at below renew left (front ++ rest) ≡ Some (Update p op e, after, rest)
-unfolding assignment_at updated
+unfolding updated
 update_read p op e below d renew left after front rest h f s =
     let last : List Piece = spell e ++ sign (codes ";") in
     let fs = fits_both (of_place p) (of_expr e) d renew left after f in
@@ -180,7 +189,7 @@ update_read p op e below d renew left after front rest h f s =
     let one = op_left op last n1.last rest n1.spells_last in
     let n2 = next (spell e) (sign (codes ";")) one.last rest one.spells in
     let r2 = ap (whole_at below renew fs.between) n2.is ∙ complete-whole_at e below d renew fs.between after n2.first (n2.last ++ rest) h fs.second n2.spells_first (closes_before n2.last rest n2.spells_last) in
-    ap (assignment_at below renew left) n1.is ∙ rw (assignment_at, r1, other, updated, one.is, r2) (complete-stopped (Update p op e) after n2.last rest n2.spells_last)
+    ap (assignment_at below renew left) n1.is ∙ place_updates below renew left (n1.first ++ (n1.last ++ rest)) p fs.between (n1.last ++ rest) r1 other ∙ rw (updated, one.is, r2) (complete-stopped (Update p op e) after n2.last rest n2.spells_last)
 
 -- ---- what begins with a name
 
@@ -258,11 +267,11 @@ call_layer (m ∷ ms) n args os k below renew left after front rest v s e =
     let s2 = regroup ((spell_modifier m ++ more) ++ name n) params (operands ++ sign (codes ";")) front s1 in
     let s3 = regroup (spell_modifier m ++ more) (name n) (params ++ (operands ++ sign (codes ";"))) front s2 in
     let s4 = regroup (spell_modifier m) more (name n ++ (params ++ (operands ++ sign (codes ";")))) front s3 in
-    from front s4 e
+    from _ front s4 e
   where
-    from : {ps : List Piece} (front : List Token) → Spells (spell_modifier m ++ ps) front → gate_call_at below renew left (front ++ rest) ≡ Some (k, after, rest) → StmtRead k below renew left after front rest
-    from {ps = ps} [] g r = absurd (modifier_some m ps g)
-    from {ps = ps} (t ∷ ts) g r =
+    from : (ps : List Piece) (front : List Token) → Spells (spell_modifier m ++ ps) front → gate_call_at below renew left (front ++ rest) ≡ Some (k, after, rest) → StmtRead k below renew left after front rest
+    from ps [] g r = absurd (modifier_some m ps g)
+    from ps (t ∷ ts) g r =
         let b = modifier_starts m ps t ts g in
         record { t = t; ts = ts; is = refl; is_word = b.is_word; read = b.branch below renew left (ts ++ rest) (t ∷ (ts ++ rest)) ∙ r }
 
