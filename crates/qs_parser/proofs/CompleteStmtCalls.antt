@@ -61,7 +61,7 @@ complete-value_at v below d renew left after front rest h k f s c = value_read v
 
 -- ---- modifiers
 
-data ModifierCase : Modifier → Type 0 where
+pub data ModifierCase : Modifier → Type 0 where
   is_inv : ModifierCase Inv
   is_pow : (exponent : Expr) → ModifierCase (Pow exponent)
   is_ctrl : (count : Option Expr) → ModifierCase (Ctrl count)
@@ -73,7 +73,7 @@ modifier_layer (layer.Pow exponent) = subst ModifierCase (sym (rolls-Pow exponen
 modifier_layer (layer.Ctrl count) = subst ModifierCase (sym (rolls-Ctrl count)) (is_ctrl count)
 modifier_layer (layer.NegCtrl count) = subst ModifierCase (sym (rolls-NegCtrl count)) (is_negctrl count)
 
-modifier_case : (m : Modifier) → ModifierCase m
+pub modifier_case : (m : Modifier) → ModifierCase m
 modifier_case m = subst ModifierCase (roll-out-Modifier m) (modifier_layer (out-Modifier m))
 
 -- the word of a modifier is read, and leaves what spells the rest

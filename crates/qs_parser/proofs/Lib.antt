@@ -27,6 +27,8 @@ pub mod CompleteStmtNames
 pub mod CompleteStmtCalls
 pub mod CompleteStmtSimple
 pub mod CompleteStmtCases
+pub mod CompleteStmtFirst
+pub mod CompleteStmtAssign
 pub mod CompleteStarts
 pub mod CompleteTop
 pub mod CompleteRefusals
