@@ -26,3 +26,9 @@ pub mod CompleteStmtParts
 pub mod CompleteStmtNames
 pub mod CompleteStmtCalls
 pub mod CompleteStmtSimple
+pub mod CompleteBegins
+pub mod CompleteBlocks
+pub mod CompleteRanges
+pub mod CompleteNested
+pub mod CompleteIf
+pub mod CompleteWeak
