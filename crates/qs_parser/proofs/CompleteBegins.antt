@@ -1,12 +1,10 @@
 -- A statement begins with a word, which is no `else`.
-use Rattle.std.proofs.Common.{◌≡◌, ℕ, zero, suc, ◌≤◌, Bool, true, false, ◌&&◌, codes, List, [], ◌∷◌, ◌++◌, length, map, option_map, Option, Some, None, refl, sym, ap, subst, ◌∙◌, append_assoc, arith}
+use Rattle.std.proofs.Common.{◌≡◌, ℕ, Bool, true, false, ◌&&◌, codes, List, [], ◌∷◌, ◌++◌, map, option_map, Option, refl, sym, ap, subst, ◌∙◌, append_assoc}
 use Rattle.std.specs.Str.{bytes_eq}
 use Rattle.std.proofs.lemmas.Bool.{and_parts}
 use Rattle.qs_values.specs.Names.{is_name}
 use Rattle.qs_values.specs.declared.span.Span.{Span}
 use Rattle.qs_lexer.specs.declared.token.Token.{Token}
-use Rattle.qs_lexer.specs.declared.token.TokenKind.TheVariants as kind
-use Rattle.qs_tree.specs.declared.assign.AssignOp.{AssignOp}
 use Rattle.qs_tree.specs.declared.expr.Expr.{Expr}
 use Rattle.qs_tree.specs.declared.expr.ExprKind.{ExprKind}
 use Rattle.qs_tree.specs.declared.expr.ExprKind.TheOpen as layer
@@ -15,25 +13,24 @@ use Rattle.qs_tree.specs.declared.expr.TypeWord.{TypeWord}
 use Rattle.qs_tree.specs.declared.expr.TypeWord.TheVariants.{Bit, Int, Uint, Angle, Bool as BoolWord, Duration}
 use Rattle.qs_tree.specs.declared.gate.Call.{Call as Called, Call-F, out-Call, roll-Call, roll-out-Call}
 use Rattle.qs_tree.specs.declared.gate.Modifier.{Modifier, out-Modifier, roll-Modifier, roll-out-Modifier}
-use Rattle.qs_tree.specs.declared.gate.Modifier.TheVariants.{Inv, Pow, Ctrl, NegCtrl, rolls-Inv, rolls-Pow, rolls-Ctrl, rolls-NegCtrl}
+use Rattle.qs_tree.specs.declared.gate.Modifier.TheVariants.{rolls-Inv, rolls-Pow, rolls-Ctrl, rolls-NegCtrl}
 use Rattle.qs_tree.specs.declared.name.Ident.{Ident}
 use Rattle.qs_tree.specs.declared.operand.Place.{Place}
 use Rattle.qs_tree.specs.declared.operand.Operand.{Operand}
 use Rattle.qs_tree.specs.declared.operand.Value.{Value}
-use Rattle.qs_tree.specs.declared.pulse.CalName.{CalName}
 use Rattle.qs_tree.specs.declared.pulse.Param.{Param}
 use Rattle.qs_tree.specs.declared.pulse.Item.{Item}
 use Rattle.qs_tree.specs.declared.statement.Body.{Body}
 use Rattle.qs_tree.specs.declared.statement.Range.{Range}
 use Rattle.qs_tree.specs.declared.statement.Stmt.{Stmt}
 use Rattle.qs_tree.specs.declared.statement.StmtKind.{StmtKind, out-StmtKind, roll-StmtKind, roll-out-StmtKind}
-use Rattle.qs_tree.specs.declared.statement.StmtKind.TheVariants.{Include, DefcalGrammar, Qubit as QubitStmt, Input, Output, Gate, Cal, Defcal, Init, Declare, Stretch, GateCall, Assign, Update, Measure, Reset, Barrier, Delay, Box, If, While, For, Break, Continue, End, rolls-Include, rolls-DefcalGrammar, rolls-Qubit, rolls-Input, rolls-Output, rolls-Gate, rolls-Cal, rolls-Defcal, rolls-Init, rolls-Declare, rolls-Stretch, rolls-GateCall, rolls-Assign, rolls-Update, rolls-Measure, rolls-Reset, rolls-Barrier, rolls-Delay, rolls-Box, rolls-If, rolls-While, rolls-For, rolls-Break, rolls-Continue, rolls-End}
+use Rattle.qs_tree.specs.declared.statement.StmtKind.TheVariants.{Init, rolls-Include, rolls-DefcalGrammar, rolls-Qubit, rolls-Input, rolls-Output, rolls-Gate, rolls-Cal, rolls-Defcal, rolls-Init, rolls-Declare, rolls-Stretch, rolls-GateCall, rolls-Assign, rolls-Update, rolls-Measure, rolls-Reset, rolls-Barrier, rolls-Delay, rolls-Box, rolls-If, rolls-While, rolls-For, rolls-Break, rolls-Continue, rolls-End}
 use Rattle.qs_tree.specs.Spelling.{Piece, Word, Spells, at_place, if_there, in_round, in_square, joined, name, sign, sign_of_assign, spell, spell_call, spell_modifier, spell_operand, spell_place, spell_stmt, spell_stmt_kind, spell_type, spell_value, with_commas, word, word_of_type}
-use Rattle.qs_tree.specs.WellFormed.{Features, all, both, of_call, of_expr, of_modifier, of_operand, of_place, of_stmt, of_stmt_kind, of_type, of_value}
+use Rattle.qs_tree.specs.WellFormed.{Features, of_call, of_place, of_stmt, of_stmt_kind}
 use Rattle.qs_tree.proofs.Spelled.{spell-Assign, spell-Barrier, spell-Box, spell-Break, spell-Cal, spell-Called, spell-Continue, spell-Ctrl, spell-Declare, spell-Defcal, spell-DefcalGrammar, spell-Delay, spell-End, spell-For, spell-Gate, spell-GateCall, spell-If, spell-Include, spell-Init, spell-Input, spell-Inv, spell-Measure, spell-NegCtrl, spell-Output, spell-Pow, spell-Qubit, spell-Reset, spell-Stmt, spell-Stretch, spell-TypeExpr, spell-Update, spell-While}
 use Rattle.qs_parser.specs.steps.Tokens.{begins_sign, begins_word}
 use Rattle.qs_parser.proofs.Featured.{features-Assign, features-Called, features-GateCall, features-Place, features-Stmt, features-Update}
-use Rattle.qs_parser.proofs.TokenPieces.{begins_sign_at, begins_word_at, shows_sign, shows_word}
+use Rattle.qs_parser.proofs.TokenPieces.{begins_sign_at, begins_word_at}
 use Rattle.qs_parser.proofs.CompleteExprCases.{spells_as}
 use Rattle.qs_parser.proofs.CompleteStmtParts.{place_starts}
 use Rattle.qs_parser.proofs.CompleteStmtNames.{not_reserved}

@@ -1,13 +1,13 @@
 -- Statements in braces are read where they are spelled.
-use Rattle.std.proofs.Common.{◌≡◌, ℕ, zero, suc, ◌+◌, ◌≤◌, Bool, true, false, codes, List, [], ◌∷◌, ◌++◌, length, map, Option, Some, None, refl, sym, ap, subst, ◌∙◌, append_assoc, length-append, arith}
+use Rattle.std.proofs.Common.{◌≡◌, ℕ, zero, suc, ◌≤◌, true, false, codes, List, [], ◌∷◌, ◌++◌, length, map, Option, Some, refl, sym, ap, subst, ◌∙◌, length-append, arith}
+use Rattle.std.proofs.lemmas.Bool.{and_parts}
 use Rattle.qs_lexer.specs.declared.token.Token.{Token}
 use Rattle.qs_tree.specs.declared.statement.Stmt.{Stmt}
 use Rattle.qs_tree.specs.Spelling.{Piece, Sign, Spells, in_braces, joined, sign, spell_stmt}
 use Rattle.qs_tree.specs.WellFormed.{Features, all, block as block_of, nested as nested_of, of_stmt}
-use Rattle.std.proofs.lemmas.Bool.{and_parts}
-use Rattle.qs_parser.specs.steps.Tokens.{◌>>=◌, Readers, Reads, after_sign, begins_sign, begins_word, up_to_brace}
+use Rattle.qs_parser.specs.steps.Tokens.{Readers, Reads, begins_sign, up_to_brace}
 use Rattle.qs_parser.specs.steps.Statements.{block_at}
-use Rattle.qs_parser.proofs.TokenPieces.{after_sign_at, begins_sign_at, begins_word_at, no_sign_after, spells_split}
+use Rattle.qs_parser.proofs.TokenPieces.{after_sign_at, begins_word_at, no_sign_after, spells_split}
 use Rattle.qs_parser.proofs.SoundNested.{map_nested}
 use Rattle.qs_parser.proofs.Complete.{ClosesStmt, Fits, IsComplete, IsCompleteBelow}
 use Rattle.qs_parser.proofs.CompleteExprParts.{after_last, fits_both, fits_nothing, inside}
@@ -29,8 +29,8 @@ parts_length : {A : Type 0} (spelled : A → List Piece) → ((x : A) → Spells
 parts_length spelled h [] [] s = absurd s
 parts_length spelled h [] (t ∷ ts) s = omega arith
 parts_length spelled h (x ∷ xs) front s =
-    let n = next (spelled x) (joined (map spelled xs) ++ sign (codes "}")) front [] (regroup (spelled x) (joined (map spelled xs)) (sign (codes "}")) front s) in
-    omega (arith, parts_length spelled h xs n.last n.spells_last, some_length n.first n.spells_first, ap length n.is, length-append n.first (n.last ++ []), length-append n.last [], length-append front [])
+    let two = spells_split (spelled x) (joined (map spelled xs) ++ sign (codes "}")) front (regroup (spelled x) (joined (map spelled xs)) (sign (codes "}")) front s) in
+    omega (arith, parts_length spelled h xs two.after two.spells_after, some_length two.front two.spells_front, ap length two.is, length-append two.front two.after)
   where
     some_length : (us : List Token) → Spells (spelled x) us → 1 ≤ length us
     some_length [] g = absurd (h x g)

@@ -1,20 +1,19 @@
 -- An `if` is read where it is spelled, with its `else`, which belongs to the nearest one.
-use Rattle.std.proofs.Common.{◌≡◌, ℕ, zero, suc, Bool, true, false, ◌&&◌, not, codes, List, [], ◌∷◌, ◌++◌, map, option_map, Option, Some, None, refl, sym, ap, subst, ◌∙◌, append_assoc}
-use Rattle.std.proofs.lemmas.Bool.{and_parts}
+use Rattle.std.proofs.Common.{◌≡◌, ℕ, Bool, true, false, not, codes, List, [], ◌∷◌, ◌++◌, option_map, Option, Some, None, refl, ap, ◌∙◌}
 use Rattle.qs_lexer.specs.declared.token.Token.{Token}
 use Rattle.qs_tree.specs.declared.expr.Expr.{Expr}
 use Rattle.qs_tree.specs.declared.statement.Body.{Body}
 use Rattle.qs_tree.specs.declared.statement.StmtKind.{StmtKind}
 use Rattle.qs_tree.specs.declared.statement.StmtKind.TheVariants.{If}
-use Rattle.qs_tree.specs.Spelling.{Piece, Spells, if_there, in_round, sign, spell, spell_body, spell_stmt_kind, word}
+use Rattle.qs_tree.specs.Spelling.{Piece, Spells, if_there, in_round, spell, spell_body, spell_stmt_kind, word}
 use Rattle.qs_tree.specs.WellFormed.{Features, both, if_there as if_there_features, in_brackets, is_nearest, of_body, of_expr, of_stmt_kind}
 use Rattle.qs_tree.proofs.Spelled.{spell-If}
-use Rattle.qs_parser.specs.steps.Tokens.{◌>>=◌, Readers, Reads, after_word, begins_word}
+use Rattle.qs_parser.specs.steps.Tokens.{Readers, Reads, begins_word}
 use Rattle.qs_parser.specs.steps.Expressions.{enclosed}
-use Rattle.qs_parser.specs.steps.Statements.{body_at, else_at, if_at, if_else, stmt_of}
+use Rattle.qs_parser.specs.steps.Statements.{body_at, else_at, if_at, stmt_of}
 use Rattle.qs_parser.proofs.Featured.{features-If}
-use Rattle.qs_parser.proofs.TokenPieces.{Left, after_word_at, no_word_after}
-use Rattle.qs_parser.proofs.Complete.{ClosesStmt, Fits, IsComplete, IsCompleteBelow}
+use Rattle.qs_parser.proofs.TokenPieces.{after_word_at, no_word_after}
+use Rattle.qs_parser.proofs.Complete.{ClosesStmt, Fits, IsCompleteBelow}
 use Rattle.qs_parser.proofs.CompleteExprParts.{close_round, complete-enclosed, fits_as, fits_both, fits_nothing, fits_where}
 use Rattle.qs_parser.proofs.CompleteExprCases.{spells_as}
 use Rattle.qs_parser.proofs.CompleteStmtParts.{next, regroup}
@@ -50,9 +49,9 @@ if_head test b other below d renew left after front rest h f t =
 
 -- ---- with the `else`
 
-clash : (b : Bool) → not b ≡ true → b ≡ true → ⊥
-clash true e h = absurd cc
-clash false e h = absurd cc
+pub both_ways : (b : Bool) → b ≡ true → b ≡ false → ⊥
+both_ways true e f = absurd cc
+both_ways false e f = absurd cc
 
 pub not_true : (b : Bool) → not b ≡ true → b ≡ false
 not_true true e = absurd cc
@@ -76,7 +75,7 @@ if_read test b None below d renew after rest read h c r = from r.last r.spells_o
 if_read test b (Some other) below d renew after rest read h c r =
     let ends : (of_body b).lacks_else ≡ false = not_true (of_body b).lacks_else r.nearest in
     let one = after_word_at (codes "else") (spell_body other) r.last rest r.spells_other in
-    let r1 = complete-body_at b below d renew r.between r.later r.mid (r.last ++ rest) h r.fits r.spells (λ e. absurd (clash (of_body b).lacks_else r.nearest e)) in
+    let r1 = complete-body_at b below d renew r.between r.later r.mid (r.last ++ rest) h r.fits r.spells (λ e. absurd (both_ways (of_body b).lacks_else e ends)) in
     let r2 = complete-body_at other below d renew r.later after one.front rest h r.fits_other one.spells (λ e. c (if_lacks_some test b other ∙ e)) in
     r.gives (b, r.later, r.last ++ rest) r1 ∙ rw (else_at, one.is, ends, r2) refl
 

@@ -1,5 +1,5 @@
 -- Statements in other ones, bodies, boxes and loops are read where they are spelled.
-use Rattle.std.proofs.Common.{◌≡◌, ℕ, zero, suc, ◌+◌, ◌≤◌, Bool, true, false, ◌&&◌, codes, List, [], ◌∷◌, ◌++◌, length, map, option_map, Option, Some, None, refl, sym, ap, subst, ◌∙◌, append_assoc, arith}
+use Rattle.std.proofs.Common.{◌≡◌, ℕ, zero, suc, true, codes, List, [], ◌∷◌, ◌++◌, map, option_map, Option, Some, None, refl, sym, ap, subst, ◌∙◌, arith}
 use Rattle.std.proofs.lemmas.Bool.{and_parts}
 use Rattle.qs_values.specs.Names.{is_name}
 use Rattle.qs_lexer.specs.declared.token.Token.{Token}
@@ -24,9 +24,9 @@ use Rattle.qs_tree.specs.declared.statement.StmtKind.TheVariants.{Box, While, Fo
 use Rattle.qs_tree.specs.Spelling.{Piece, Sign, Word, Spells, if_there, in_braces, in_round, in_square, joined, name, sign, spell, spell_body, spell_range, spell_stmt, spell_stmt_kind, spell_type, word}
 use Rattle.qs_tree.specs.WellFormed.{Features, block as block_of, both, if_in_brackets, in_brackets, may_nest, nested as nested_of, of_body, of_expr, of_range, of_stmt, of_stmt_kind, of_type}
 use Rattle.qs_tree.proofs.Spelled.{spell-Box, spell-Braces, spell-For, spell-One, spell-While}
-use Rattle.qs_parser.specs.steps.Tokens.{◌>>=◌, Readers, Reads, after_word, begins_sign, begins_word, name_at}
+use Rattle.qs_parser.specs.steps.Tokens.{◌>>=◌, Readers, Reads, begins_sign}
 use Rattle.qs_parser.specs.steps.Expressions.{enclosed}
-use Rattle.qs_parser.specs.steps.Statements.{block_at, body_at, box_at, bracket_at, for_at, nested_at, range_at, stmt_of, type_at, while_at}
+use Rattle.qs_parser.specs.steps.Statements.{body_at, box_at, for_at, nested_at, range_at, stmt_of, type_at, while_at}
 use Rattle.qs_parser.proofs.Featured.{features-Box, features-Braces, features-For, features-One, features-While}
 use Rattle.qs_parser.proofs.TokenPieces.{after_word_at, begins_sign_at, name_at_name}
 use Rattle.qs_parser.proofs.Complete.{ClosesStmt, Fits, IsComplete, IsCompleteBelow}

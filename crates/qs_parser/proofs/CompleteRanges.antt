@@ -1,5 +1,5 @@
 -- What a `for` goes through is read where it is spelled.
-use Rattle.std.proofs.Common.{◌≡◌, ℕ, zero, suc, ◌+◌, ◌≤◌, Bool, true, false, codes, List, [], ◌∷◌, ◌++◌, length, map, option_map, Option, Some, None, refl, sym, ap, subst, ◌∙◌, append_assoc}
+use Rattle.std.proofs.Common.{◌≡◌, ℕ, true, codes, List, [], ◌∷◌, ◌++◌, map, option_map, Option, Some, None, refl, sym, ap, subst, ◌∙◌}
 use Rattle.qs_values.specs.declared.span.Span.{Span}
 use Rattle.qs_lexer.specs.declared.token.Token.{Token}
 use Rattle.qs_lexer.specs.declared.token.TokenKind.TheVariants as kind
@@ -19,13 +19,13 @@ use Rattle.qs_tree.specs.declared.statement.Range.{Range, out-Range, roll-Range,
 use Rattle.qs_tree.specs.declared.statement.Range.TheVariants.{Interval, Set, rolls-Interval, rolls-Set}
 use Rattle.qs_tree.specs.declared.statement.Stmt.{Stmt}
 use Rattle.qs_tree.specs.declared.statement.StmtKind.{StmtKind}
-use Rattle.qs_tree.specs.Spelling.{Piece, Sign, Spells, if_there, in_square, sign, spell, spell_range, with_commas}
-use Rattle.qs_tree.specs.WellFormed.{Features, all, both, if_there as if_there_features, in_brackets, is_some, of_expr, of_range, where_true}
+use Rattle.qs_tree.specs.Spelling.{Piece, Spells, if_there, in_square, sign, spell, spell_range, with_commas}
+use Rattle.qs_tree.specs.WellFormed.{Features, all, both, if_there as if_there_features, in_brackets, is_some, of_expr, of_range}
 use Rattle.qs_tree.proofs.Spelled.{spell-Interval, spell-Set}
-use Rattle.qs_parser.specs.steps.Tokens.{◌>>=◌, Readers, Reads, after_sign, begins_sign, commas, renewed}
+use Rattle.qs_parser.specs.steps.Tokens.{◌>>=◌, Readers, after_sign, commas, renewed}
 use Rattle.qs_parser.specs.steps.Statements.{interval_at, interval_end, range_at, set_at}
 use Rattle.qs_parser.proofs.Featured.{features-Interval, features-Set}
-use Rattle.qs_parser.proofs.TokenPieces.{after_sign_at, begins_sign_at, no_sign_after}
+use Rattle.qs_parser.proofs.TokenPieces.{after_sign_at, no_sign_after}
 use Rattle.qs_parser.proofs.Complete.{ClosesExpr, Fits, IsComplete, IsCompleteBelow}
 use Rattle.qs_parser.proofs.CompleteExprParts.{after_last, begins_other, close_brace, close_colon, close_comma, close_square, closes_at, complete-commas, complete-renewed, fits_as, fits_both, fits_nothing, fits_where, inside}
 use Rattle.qs_parser.proofs.CompleteExprCases.{placed_empty, spells_as, unplaced}

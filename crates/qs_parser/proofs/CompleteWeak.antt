@@ -1,11 +1,7 @@
 -- Before an `else`, a statement that lacks one is read with no fewer tokens than it has.
-use Rattle.std.proofs.Common.{◌≡◌, ℕ, zero, suc, ◌+◌, ◌≤◌, Bool, true, false, ◌&&◌, not, codes, List, [], ◌∷◌, ◌++◌, length, map, option_map, Option, Some, None, refl, sym, ap, subst, ◌∙◌, append_assoc, length-append, arith}
-use Rattle.std.specs.Str.{bytes_eq}
-use Rattle.std.proofs.lemmas.Bool.{and_parts}
-use Rattle.qs_values.specs.declared.span.Span.{Span}
+use Rattle.std.proofs.Common.{◌≡◌, ℕ, ◌≤◌, Bool, true, false, codes, List, [], ◌∷◌, ◌++◌, length, map, option_map, Option, Some, None, refl, sym, ap, subst, ◌∙◌, length-append, arith}
 use Rattle.qs_lexer.specs.declared.token.Token.{Token}
 use Rattle.qs_lexer.specs.declared.token.TokenKind.TheVariants as kind
-use Rattle.qs_tree.specs.declared.assign.AssignOp.{AssignOp}
 use Rattle.qs_tree.specs.declared.expr.Expr.{Expr}
 use Rattle.qs_tree.specs.declared.expr.ExprKind.{ExprKind}
 use Rattle.qs_tree.specs.declared.expr.ExprKind.TheOpen as layer
@@ -15,7 +11,6 @@ use Rattle.qs_tree.specs.declared.gate.Modifier.{Modifier}
 use Rattle.qs_tree.specs.declared.name.Ident.{Ident}
 use Rattle.qs_tree.specs.declared.operand.Place.{Place}
 use Rattle.qs_tree.specs.declared.operand.Operand.{Operand}
-use Rattle.qs_tree.specs.declared.operand.Operand.TheVariants.{Named, PhysicalQubit}
 use Rattle.qs_tree.specs.declared.operand.Value.{Value}
 use Rattle.qs_tree.specs.declared.pulse.Param.{Param}
 use Rattle.qs_tree.specs.declared.pulse.Item.{Item}
@@ -24,24 +19,24 @@ use Rattle.qs_tree.specs.declared.statement.Body.TheVariants.{One, Braces}
 use Rattle.qs_tree.specs.declared.statement.Range.{Range}
 use Rattle.qs_tree.specs.declared.statement.Stmt.{Stmt}
 use Rattle.qs_tree.specs.declared.statement.StmtKind.{StmtKind, out-StmtKind, roll-StmtKind, roll-out-StmtKind}
-use Rattle.qs_tree.specs.declared.statement.StmtKind.TheVariants.{Include, DefcalGrammar, Qubit as QubitStmt, Input, Output, Gate, Cal, Defcal, Init, Declare, Stretch, GateCall, Assign, Update, Measure, Reset, Barrier, Delay, Box, If, While, For, Break, Continue, End, rolls-Include, rolls-DefcalGrammar, rolls-Qubit, rolls-Input, rolls-Output, rolls-Gate, rolls-Cal, rolls-Defcal, rolls-Init, rolls-Declare, rolls-Stretch, rolls-GateCall, rolls-Assign, rolls-Update, rolls-Measure, rolls-Reset, rolls-Barrier, rolls-Delay, rolls-Box, rolls-If, rolls-While, rolls-For, rolls-Break, rolls-Continue, rolls-End}
-use Rattle.qs_tree.specs.Spelling.{Piece, Spells, if_there, in_round, name, sign, spell, spell_body, spell_range, spell_stmt, spell_stmt_kind, spell_type, word}
-use Rattle.qs_tree.specs.WellFormed.{Features, all, both, if_in_brackets, may_nest, nested as nested_of, of_body, of_call, of_expr, of_operand, of_place, of_stmt, of_stmt_kind, of_type}
+use Rattle.qs_tree.specs.declared.statement.StmtKind.TheVariants.{If, While, For, rolls-Include, rolls-DefcalGrammar, rolls-Qubit, rolls-Input, rolls-Output, rolls-Gate, rolls-Cal, rolls-Defcal, rolls-Init, rolls-Declare, rolls-Stretch, rolls-GateCall, rolls-Assign, rolls-Update, rolls-Measure, rolls-Reset, rolls-Barrier, rolls-Delay, rolls-Box, rolls-If, rolls-While, rolls-For, rolls-Break, rolls-Continue, rolls-End}
+use Rattle.qs_tree.specs.Spelling.{Piece, Spells, if_there, in_round, name, spell, spell_body, spell_range, spell_stmt, spell_stmt_kind, spell_type, word}
+use Rattle.qs_tree.specs.WellFormed.{Features, all, if_in_brackets, nested as nested_of, of_body, of_call, of_expr, of_operand, of_place, of_stmt, of_stmt_kind, of_type}
 use Rattle.qs_tree.proofs.Spelled.{spell-For, spell-If, spell-One, spell-Stmt, spell-While}
-use Rattle.qs_parser.specs.steps.Tokens.{◌>>=◌, Readers, Reads, after_word, begins_word, has_word}
+use Rattle.qs_parser.specs.steps.Tokens.{Readers, Reads, after_word, begins_word, has_word}
 use Rattle.qs_parser.specs.steps.Statements.{body_at, else_at, for_at, if_at, if_else, nested_at, stmt_at, stmt_of, while_at}
 use Rattle.qs_parser.proofs.Featured.{features-Barrier, features-Box, features-Braces, features-Break, features-Cal, features-Called, features-Continue, features-Declare, features-Defcal, features-DefcalGrammar, features-Delay, features-End, features-Gate, features-GateCall, features-Include, features-Init, features-Input, features-Measure, features-Named, features-Output, features-PhysicalQubit, features-Place, features-Qubit, features-Reset, features-Stmt, features-Stretch, features-TypeExpr, features-Update, features-Assign}
 use Rattle.qs_parser.proofs.TokenPieces.{Took, after_word_at, took_word}
 use Rattle.qs_parser.proofs.SoundParts.{Holds, holds_at}
 use Rattle.qs_parser.proofs.SoundReaders.{IsSoundBelow}
 use Rattle.qs_parser.proofs.SoundNested.{sound-body_at}
-use Rattle.qs_parser.proofs.Complete.{ClosesStmt, Fits, IsComplete, IsCompleteBelow, ReadsUpTo}
+use Rattle.qs_parser.proofs.Complete.{Fits, IsCompleteBelow, ReadsUpTo}
 use Rattle.qs_parser.proofs.CompleteExprParts.{fits_as}
-use Rattle.qs_parser.proofs.CompleteExprCases.{placed_empty, spells_as, unplaced}
+use Rattle.qs_parser.proofs.CompleteExprCases.{spells_as, unplaced}
 use Rattle.qs_parser.proofs.CompleteStmtParts.{OperandCase, is_named, is_physical, operand_case, place_starts}
 use Rattle.qs_parser.proofs.CompleteBegins.{stmt_some}
 use Rattle.qs_parser.proofs.CompleteNested.{BodyCase, HeadRead, body_case, body_of_one, complete-body_at, for_head, for_lacks, is_braces, is_one, nested_by, nested_in, one_fits, one_lacks, while_head, while_lacks}
-use Rattle.qs_parser.proofs.CompleteIf.{IfRead, if_head, if_lacks_some, not_true}
+use Rattle.qs_parser.proofs.CompleteIf.{IfRead, both_ways, if_head, if_lacks_some, not_true}
 
 -- ---- what is read up to some tokens
 
@@ -60,12 +55,9 @@ weak-nested_at s below d renew left after front rest h f t l b =
     let n = nested_in (of_stmt s) d below renew left after h f in
     up_to_as (nested_by n.readers below n.is renew left (front ++ rest)) (n.complete.stmt_weak s renew left after front rest n.fits n.nests t l b)
 
+-- a block lacks no `else`
 braces_lack : (ss : List Stmt) → (of_body (Braces ss)).lacks_else ≡ false
 braces_lack ss = ap (λ (f : Features). f.lacks_else) (features-Braces ss)
-
-both_ways : (b : Bool) → b ≡ true → b ≡ false → ⊥
-both_ways true e f = absurd cc
-both_ways false e f = absurd cc
 
 weak_body : (b : Body) → BodyCase b → (below : Option Readers) (d renew left after : ℕ) (front rest : List Token) → IsCompleteBelow d below → Fits (of_body b) d renew left after → Spells (spell_body b) front → (of_body b).lacks_else ≡ true → begins_word (codes "else") rest ≡ true → ReadsUpTo (body_at below renew left (front ++ rest)) rest
 weak_body _ (is_one s) below d renew left after front rest h f t l w =
