@@ -38,3 +38,4 @@ pub mod CompleteWeak
 pub mod CompleteStarts
 pub mod CompleteTop
 pub mod CompleteRefusals
+pub mod CompleteGlobals
