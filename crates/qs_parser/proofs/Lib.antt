@@ -39,3 +39,4 @@ pub mod CompleteStarts
 pub mod CompleteTop
 pub mod CompleteRefusals
 pub mod CompleteGlobals
+pub mod CompleteGates
