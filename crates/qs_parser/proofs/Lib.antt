@@ -29,3 +29,12 @@ pub mod CompleteStmtSimple
 pub mod CompleteStmtCases
 pub mod CompleteStmtFirst
 pub mod CompleteStmtAssign
+pub mod CompleteBegins
+pub mod CompleteBlocks
+pub mod CompleteRanges
+pub mod CompleteNested
+pub mod CompleteIf
+pub mod CompleteWeak
+pub mod CompleteStmtChoice
+pub mod CompleteStmt
+pub mod CompleteKnot
