@@ -1,13 +1,12 @@
 -- Statements are read where they are spelled.
-use Rattle.std.proofs.Common.{◌≡◌, ℕ, true, List, [], ◌∷◌, ◌++◌, Option, Some, None, refl, sym, ap, subst, ◌∙◌}
+use Rattle.std.proofs.Common.{◌≡◌, ℕ, true, List, [], ◌∷◌, ◌++◌, Option, Some, refl, sym, ap, subst, ◌∙◌}
 use Rattle.qs_lexer.specs.declared.token.Token.{Token}
 use Rattle.qs_lexer.specs.declared.token.TokenKind.TheVariants as kind
 use Rattle.qs_tree.specs.declared.statement.Stmt.{Stmt}
-use Rattle.qs_tree.specs.declared.statement.StmtKind.{StmtKind}
 use Rattle.qs_tree.specs.Spelling.{Spells, at_place, spell_stmt, spell_stmt_kind}
 use Rattle.qs_tree.specs.WellFormed.{Features, may_nest, of_stmt}
 use Rattle.qs_tree.proofs.Spelled.{spell-Stmt}
-use Rattle.qs_parser.specs.steps.Tokens.{◌>>=◌, Readers, has_word}
+use Rattle.qs_parser.specs.steps.Tokens.{Readers, has_word}
 use Rattle.qs_parser.specs.steps.Statements.{stmt_at, stmt_of}
 use Rattle.qs_parser.proofs.Featured.{features-Stmt}
 use Rattle.qs_parser.proofs.Complete.{ClosesStmt, Fits, IsCompleteBelow}
