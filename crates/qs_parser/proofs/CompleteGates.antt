@@ -40,6 +40,7 @@ use Rattle.qs_parser.proofs.CompleteStmtCalls.{complete-call_at}
 use Rattle.qs_parser.proofs.CompleteStmtCases.{StmtCase, is_include, is_defcalgrammar, is_qubit, is_input, is_output, is_gate, is_cal, is_defcal, is_init, is_declare, is_stretch, is_gate_call, is_assign, is_update, is_measure, is_reset, is_barrier, is_delay, is_box, is_if, is_while, is_for, is_break, is_continue, is_end, stmt_case_of}
 use Rattle.qs_parser.proofs.CompleteBegins.{stmt_no_sign, stmt_some}
 use Rattle.qs_parser.proofs.CompleteBlocks.{IsCompletePart, complete-to_brace}
+use Rattle.qs_parser.proofs.CompleteKnot.{complete-below}
 use Rattle.qs_parser.proofs.CompleteGlobals.{TopRead, by_top, complete-gate_params_at, complete-names_at, fits_inside, fits_top}
 
 -- ---- which statements are calls
@@ -117,28 +118,28 @@ call_features_of s = where_true (is_call (of_stmt s).standing) (nested (of_stmt 
 abbrev CallRead : (d renew left after : ℕ) → (front rest : List Token) → Stmt → Type 0
 CallRead d renew left after front rest s = Fits (call_features_of s) d renew left after → Spells (spell_stmt s) front → call_in d renew left (front ++ rest) ≡ Some (s, after, rest)
 
-call_of : ((i : ℕ) → IsCompleteBelow i (below i)) → (span : Span) (c : Called) (d renew left after : ℕ) (front rest : List Token) → CallRead d renew left after front rest (record { span = span; kind = GateCall c })
+call_of : (span : Span) (c : Called) (d renew left after : ℕ) (front rest : List Token) → CallRead d renew left after front rest (record { span = span; kind = GateCall c })
 unfolding call_in
-call_of h span c d renew left after [] rest f s = absurd (stmt_some (record { span = span; kind = GateCall c }) s)
-call_of h span c zero renew left after (t ∷ ts) rest f s = absurd (omega (arith, f.depth))
-call_of h span c (suc i) renew left after (t ∷ ts) rest f s =
+call_of span c d renew left after [] rest f s = absurd (stmt_some (record { span = span; kind = GateCall c }) s)
+call_of span c zero renew left after (t ∷ ts) rest f s = absurd (omega (arith, f.depth))
+call_of span c (suc i) renew left after (t ∷ ts) rest f s =
     let stmt : Stmt = record { span = span; kind = GateCall c } in
     let is : of_stmt stmt ≡ record (of_call c) { standing = AsCall } = features-Stmt stmt ∙ features-GateCall c in
     let g = fits_as (ap (λ (x : Features). where_true (is_call x.standing) (nested x)) is) f in
     let fits : Fits (of_call c) i renew left after = record { follows = g.follows; depth = omega (arith, g.depth); spent = g.spent } in
     let u = unplaced span (spell_stmt_kind (GateCall c)) t ts (spells_as (t ∷ ts) (spell-Stmt stmt) s) in
-    let r = complete-call_at c (below i) i renew left after (t ∷ ts) rest (h i) fits (spells_as (t ∷ ts) (spell-GateCall c) u.1) in
+    let r = complete-call_at c (below i) i renew left after (t ∷ ts) rest (complete-below i) fits (spells_as (t ∷ ts) (spell-GateCall c) u.1) in
     rw (call_in, r, u.0) refl
 
-call_read : ((i : ℕ) → IsCompleteBelow i (below i)) → (s : Stmt) (d renew left after : ℕ) (front rest : List Token) → CallRead d renew left after front rest s
-call_read h s d renew left after front rest f p =
+call_read : (s : Stmt) (d renew left after : ℕ) (front rest : List Token) → CallRead d renew left after front rest s
+call_read s d renew left after front rest f p =
     let rule : is_call (of_stmt s).standing ≡ true = (fits_where (is_call (of_stmt s).standing) f).0 in
     let c = gate_call s.kind (stmt_case_of s.kind) (ap (λ (x : Features). is_call x.standing) (sym (features-Stmt s)) ∙ rule) in
-    subst (λ (k : StmtKind). CallRead d renew left after front rest (record { span = s.span; kind = k })) (sym c.is) (call_of h s.span c.call d renew left after front rest) f p
+    subst (λ (k : StmtKind). CallRead d renew left after front rest (record { span = s.span; kind = k })) (sym c.is) (call_of s.span c.call d renew left after front rest) f p
 
-call_part : ((i : ℕ) → IsCompleteBelow i (below i)) → (d renew : ℕ) → IsCompletePart spell_stmt call_features_of d renew (call_in d renew) (λ s rest. Unit {0})
-call_part h d renew = record {
-  reads = λ x left after front rest f s e. call_read h x d renew left after front rest f s;
+call_part : (d renew : ℕ) → IsCompletePart spell_stmt call_features_of d renew (call_in d renew) (λ s rest. Unit {0})
+call_part d renew = record {
+  reads = λ x left after front rest f s e. call_read x d renew left after front rest f s;
   ends_brace = λ x front rest s. tt;
   ends_part = λ x y ps front rest f s. tt;
   no_brace = λ x ps front rest s. stmt_no_sign x (codes "}") ps front rest s;
@@ -161,13 +162,13 @@ calls_fit : (calls : List Stmt) (d renew left after : ℕ) → list_all (λ f. i
 calls_fit calls d renew left after e f =
     fits_as (ap all_of (sym (each_as (λ s. is_call (of_stmt s).standing) (λ s. nested (of_stmt s)) calls (sym (list_all-map (λ f. is_call f.standing) of_stmt calls) ∙ e) ∙ map_nested calls))) f
 
-complete-calls_at : ((i : ℕ) → IsCompleteBelow i (below i)) → (calls : List Stmt) (d renew left after : ℕ) (front rest : List Token) → list_all (λ f. is_call f.standing) (map of_stmt calls) ≡ true → Fits (block (map of_stmt calls)) d renew left after → Spells (in_braces (map spell_stmt calls)) front → calls_at d renew left (front ++ rest) ≡ Some (calls, after, rest)
+complete-calls_at : (calls : List Stmt) (d renew left after : ℕ) (front rest : List Token) → list_all (λ f. is_call f.standing) (map of_stmt calls) ≡ true → Fits (block (map of_stmt calls)) d renew left after → Spells (in_braces (map spell_stmt calls)) front → calls_at d renew left (front ++ rest) ≡ Some (calls, after, rest)
 unfolding calls_at
-complete-calls_at h calls zero renew left after front rest e f s = absurd (omega (arith, f.depth))
-complete-calls_at h calls (suc i) renew left after front rest e f s =
+complete-calls_at calls zero renew left after front rest e f s = absurd (omega (arith, f.depth))
+complete-calls_at calls (suc i) renew left after front rest e f s =
     let inner : Fits (all_of (map nested (map of_stmt calls))) i renew left after = fits_inside (all_of (map nested (map of_stmt calls))) i renew left after f in
     let one = after_sign_at (codes "{") (joined (map spell_stmt calls) ++ sign (codes "}")) front rest s in
-    let read = complete-to_brace spell_stmt call_features_of i renew (call_in i renew) (λ x us. Unit {0}) (call_part h i renew) calls left after one.front rest (calls_fit calls i renew left after e inner) one.spells in
+    let read = complete-to_brace spell_stmt call_features_of i renew (call_in i renew) (λ x us. Unit {0}) (call_part i renew) calls left after one.front rest (calls_fit calls i renew left after e inner) one.spells in
     rw (calls_at, one.is, read) refl
 
 -- ---- a gate
@@ -195,9 +196,9 @@ gate_rule n params qubits calls e =
     let d = and_parts (is_name n.name) (are_params params) c.0 in
     record { name = d.0; params_named = d.1; qubits_named = c.1; some = b.1; are_calls = a.1 }
 
-gate_read : ((i : ℕ) → IsCompleteBelow i (below i)) → (n : Ident) (params : Option (List Ident)) (qubits : List Ident) (calls : List Stmt) (d renew left after : ℕ) (front rest : List Token) → GateRule n params qubits calls → Fits (both (brackets_of params) (block (map of_stmt calls))) d renew left after → Spells (name n ++ if_there (λ ps. in_round (names ps)) params ++ names qubits ++ in_braces (map spell_stmt calls)) front → gate_at d renew left (front ++ rest) ≡ Some (Gate n params qubits calls, after, rest)
+gate_read : (n : Ident) (params : Option (List Ident)) (qubits : List Ident) (calls : List Stmt) (d renew left after : ℕ) (front rest : List Token) → GateRule n params qubits calls → Fits (both (brackets_of params) (block (map of_stmt calls))) d renew left after → Spells (name n ++ if_there (λ ps. in_round (names ps)) params ++ names qubits ++ in_braces (map spell_stmt calls)) front → gate_at d renew left (front ++ rest) ≡ Some (Gate n params qubits calls, after, rest)
 unfolding gate_at
-gate_read h n params qubits calls d renew left after front rest r f s =
+gate_read n params qubits calls d renew left after front rest r f s =
     let ps : List Piece = if_there (λ xs. in_round (names xs)) params in
     let cs : List Piece = in_braces (map spell_stmt calls) in
     let fs = fits_both (brackets_of params) (block (map of_stmt calls)) d renew left after f in
@@ -207,11 +208,11 @@ gate_read h n params qubits calls d renew left after front rest r f s =
     let r1 : gate_params_at d left (named.front ++ rest) ≡ Some (params, fs.between, n2.last ++ rest) = ap (gate_params_at d left) n2.is ∙ complete-gate_params_at params d renew left fs.between n2.first (n2.last ++ rest) r.params_named fs.first n2.spells_first (names_no_sign (codes "(") qubits cs n2.last rest r.some n2.spells_last) in
     let comma : begins_sign (codes ",") (n3.last ++ rest) ≡ false = begins_sign_at (codes ",") (record { shows = Sign (codes "{"); places = [] }) (joined (map spell_stmt calls) ++ sign (codes "}")) n3.last rest n3.spells_last in
     let r2 : names_at fs.between (n2.last ++ rest) ≡ Some (qubits, fs.between, n3.last ++ rest) = ap (names_at fs.between) n3.is ∙ complete-names_at qubits fs.between n3.first (n3.last ++ rest) r.qubits_named r.some n3.spells_first comma in
-    let r3 : calls_at d renew fs.between (n3.last ++ rest) ≡ Some (calls, after, rest) = complete-calls_at h calls d renew fs.between after n3.last rest r.are_calls fs.second n3.spells_last in
+    let r3 : calls_at d renew fs.between (n3.last ++ rest) ≡ Some (calls, after, rest) = complete-calls_at calls d renew fs.between after n3.last rest r.are_calls fs.second n3.spells_last in
     rw (gate_at, named.is, r1, r2, r3) refl
 
-pub read-gate : ((i : ℕ) → IsCompleteBelow i (below i)) → (n : Ident) (params : Option (List Ident)) (qubits : List Ident) (calls : List Stmt) (d renew left after : ℕ) (front rest : List Token) → Fits (of_stmt_kind (Gate n params qubits calls)) d renew left after → Spells (spell_stmt_kind (Gate n params qubits calls)) front → TopRead (Gate n params qubits calls) d renew left after front rest
+pub read-gate : (n : Ident) (params : Option (List Ident)) (qubits : List Ident) (calls : List Stmt) (d renew left after : ℕ) (front rest : List Token) → Fits (of_stmt_kind (Gate n params qubits calls)) d renew left after → Spells (spell_stmt_kind (Gate n params qubits calls)) front → TopRead (Gate n params qubits calls) d renew left after front rest
 unfolding top_of
-read-gate h n params qubits calls d renew left after front rest f s =
+read-gate n params qubits calls d renew left after front rest f s =
     let g = fits_where (is_name n.name && are_params params && are_names qubits && is_some qubits && list_all (λ f. is_call f.standing) (map of_stmt calls)) (fits_top (fits_as (features-Gate n params qubits calls) f)) in
-    by_top (codes "gate") (name n ++ if_there (λ ps. in_round (names ps)) params ++ names qubits ++ in_braces (map spell_stmt calls)) (Gate n params qubits calls) d renew left after front rest (spells_as front (spell-Gate n params qubits calls) s) (λ last t. ap (λ (r : Reads StmtKind). Some r) (gate_read h n params qubits calls d renew left after last rest (gate_rule n params qubits calls g.0) g.1 t))
+    by_top (codes "gate") (name n ++ if_there (λ ps. in_round (names ps)) params ++ names qubits ++ in_braces (map spell_stmt calls)) (Gate n params qubits calls) d renew left after front rest (spells_as front (spell-Gate n params qubits calls) s) (λ last t. ap (λ (r : Reads StmtKind). Some r) (gate_read n params qubits calls d renew left after last rest (gate_rule n params qubits calls g.0) g.1 t))

@@ -1,9 +1,8 @@
 -- Declarations, assignments and calls are read where they are spelled.
-use Rattle.std.proofs.Common.{◌≡◌, ℕ, zero, suc, Bool, true, false, ◌&&◌, ◌||◌, cond, codes, List, [], ◌∷◌, ◌++◌, map, option_map, Option, Some, None, refl, sym, ap, subst, ◌∙◌, append_assoc}
+use Rattle.std.proofs.Common.{◌≡◌, ℕ, Bool, true, false, ◌||◌, cond, codes, List, [], ◌∷◌, ◌++◌, map, option_map, Option, Some, None, refl, sym, ap, ◌∙◌}
 use Rattle.std.specs.Str.{bytes_eq}
 use Rattle.std.proofs.lemmas.Bool.{and_parts}
 use Rattle.qs_values.specs.Names.{is_name}
-use Rattle.qs_values.specs.declared.span.Span.{Span}
 use Rattle.qs_lexer.specs.declared.token.Token.{Token}
 use Rattle.qs_lexer.specs.declared.token.TokenKind.TheVariants as kind
 use Rattle.qs_tree.specs.declared.assign.AssignOp.{AssignOp}
@@ -16,7 +15,6 @@ use Rattle.qs_tree.specs.declared.gate.Modifier.{Modifier}
 use Rattle.qs_tree.specs.declared.name.Ident.{Ident}
 use Rattle.qs_tree.specs.declared.operand.Place.{Place}
 use Rattle.qs_tree.specs.declared.operand.Operand.{Operand}
-use Rattle.qs_tree.specs.declared.operand.Operand.TheVariants.{Named, PhysicalQubit}
 use Rattle.qs_tree.specs.declared.operand.Value.{Value}
 use Rattle.qs_tree.specs.declared.pulse.Param.{Param}
 use Rattle.qs_tree.specs.declared.pulse.Item.{Item}
@@ -25,21 +23,21 @@ use Rattle.qs_tree.specs.declared.statement.StmtKind.{StmtKind}
 use Rattle.qs_tree.specs.declared.statement.StmtKind.TheVariants.{Init, Declare, GateCall, Assign, Update}
 use Rattle.qs_tree.specs.declared.statement.Body.{Body}
 use Rattle.qs_tree.specs.declared.statement.Range.{Range}
-use Rattle.qs_tree.specs.Spelling.{Piece, Sign, Word, Qubit, Spells, if_there, in_round, in_square, joined, name, sign, sign_of_assign, spell, spell_call, spell_modifier, spell_operand, spell_place, spell_stmt_kind, spell_type, spell_value, with_commas, word, after_commas as spell_after_commas}
+use Rattle.qs_tree.specs.Spelling.{Piece, Word, Qubit, Spells, if_there, in_round, in_square, joined, name, sign, sign_of_assign, spell, spell_call, spell_modifier, spell_operand, spell_place, spell_stmt_kind, spell_type, spell_value, with_commas, after_commas as spell_after_commas}
 use Rattle.qs_tree.specs.WellFormed.{Features, both, of_call, of_expr, of_place, of_stmt_kind, of_type, of_value, where_true}
 use Rattle.qs_tree.proofs.Spelled.{spell-Assign, spell-Called, spell-Declare, spell-GateCall, spell-Init, spell-Named, spell-PhysicalQubit, spell-Update}
-use Rattle.qs_parser.specs.steps.Tokens.{◌>>=◌, Readers, Reads, after_sign, begins_sign, has_sign, name_at}
-use Rattle.qs_parser.specs.steps.Statements.{assign_op, assign_op_at, assigned, assignment_at, call_at, declaration_at, gate_call_at, init_at, is_assigned, place_at, stmt_of, stopped, type_at, updated, value_at}
+use Rattle.qs_parser.specs.steps.Tokens.{Readers, after_sign, begins_sign, has_sign}
+use Rattle.qs_parser.specs.steps.Statements.{assign_op_at, assigned, assignment_at, declaration_at, gate_call_at, init_at, is_assigned, place_at, stmt_of, updated, value_at}
 use Rattle.qs_parser.specs.steps.Expressions.{whole_at}
 use Rattle.qs_parser.proofs.Featured.{features-Assign, features-Called, features-Declare, features-GateCall, features-Init, features-Place, features-Update}
-use Rattle.qs_parser.proofs.TokenPieces.{after_sign_at, begins_sign_at, name_at_name, no_sign_after, spells_split}
-use Rattle.qs_parser.proofs.Complete.{ClosesExpr, Fits, IsCompleteBelow}
+use Rattle.qs_parser.proofs.TokenPieces.{after_sign_at, begins_sign_at, name_at_name, no_sign_after}
+use Rattle.qs_parser.proofs.Complete.{Fits, IsCompleteBelow}
 use Rattle.qs_parser.proofs.CompleteExprParts.{begins_other, fits_as, fits_both, fits_where}
 use Rattle.qs_parser.proofs.CompleteExprCases.{spells_as}
 use Rattle.qs_parser.proofs.CompleteExpr.{complete-expr_at, complete-whole_at}
 use Rattle.qs_parser.proofs.CompleteStmtParts.{NoIndex, OperandCase, ReadsExpr, complete-place_at, complete-stopped, complete-type_at, is_named, is_physical, next, operand_case, place_starts, regroup}
 use Rattle.qs_parser.proofs.CompleteStmtCalls.{complete-call_at, complete-value_at}
-use Rattle.qs_parser.proofs.CompleteStmtFirst.{by_assigned, by_type, is_assigned_equals, is_assigned_index, is_assigned_op, modifier_some, modifier_starts, name_branch, not_assigned_sign, not_assigned_unsigned}
+use Rattle.qs_parser.proofs.CompleteStmtFirst.{by_type, is_assigned_equals, is_assigned_index, is_assigned_op, modifier_before_some, modifier_starts, name_branch, not_assigned_sign, not_assigned_unsigned, op_of_sign}
 use Rattle.qs_parser.proofs.CompleteStmtSimple.{StmtRead, by_word, closes_before}
 
 -- expressions are read where what stands deeper is read
@@ -152,18 +150,6 @@ no_square assigns.BitXor = refl
 no_square assigns.ShiftLeft = refl
 no_square assigns.ShiftRight = refl
 
-op_of_sign : (op : AssignOp) → assign_op (sign_of_assign op) ≡ Some op
-op_of_sign assigns.Add = refl
-op_of_sign assigns.Sub = refl
-op_of_sign assigns.Mul = refl
-op_of_sign assigns.Div = refl
-op_of_sign assigns.Rem = refl
-op_of_sign assigns.BitAnd = refl
-op_of_sign assigns.BitOr = refl
-op_of_sign assigns.BitXor = refl
-op_of_sign assigns.ShiftLeft = refl
-op_of_sign assigns.ShiftRight = refl
-
 -- an operator that assigns is read, and leaves what spells the rest
 record OpLeft (op : AssignOp) (ps : List Piece) (ts rest : List Token) : Type 0 where
   last : List Token
@@ -270,7 +256,7 @@ call_layer (m ∷ ms) n args os k below renew left after front rest v s e =
     from _ front s4 e
   where
     from : (ps : List Piece) (front : List Token) → Spells (spell_modifier m ++ ps) front → gate_call_at below renew left (front ++ rest) ≡ Some (k, after, rest) → StmtRead k below renew left after front rest
-    from ps [] g r = absurd (modifier_some m ps g)
+    from ps [] g r = absurd (modifier_before_some m ps g)
     from ps (t ∷ ts) g r =
         let b = modifier_starts m ps t ts g in
         record { t = t; ts = ts; is = refl; is_word = b.is_word; read = b.branch below renew left (ts ++ rest) (t ∷ (ts ++ rest)) ∙ r }

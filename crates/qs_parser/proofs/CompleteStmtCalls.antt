@@ -139,7 +139,7 @@ modifiers_read (m ∷ ms) (suc k) below d renew left after front rest l h f s e 
     let more : modifiers_at k below renew fs.between (n.last ++ rest) ≡ Some (ms, after, rest) = modifiers_read ms k below d renew fs.between after n.last rest (omega (arith, l)) h fs.second n.spells_last e in
     ap (modifiers_at (suc k) below renew left) n.is ∙ rw (modifiers_at, one.is, one.read, more) refl
 
-modifier_some : (m : Modifier) → ModifierCase m → Spells (spell_modifier m) [] → ⊥
+pub modifier_some : (m : Modifier) → ModifierCase m → Spells (spell_modifier m) [] → ⊥
 modifier_some _ is_inv s = spells_as [] spell-Inv s
 modifier_some _ (is_pow e) s = spells_as [] (spell-Pow e) s
 modifier_some _ (is_ctrl count) s = spells_as [] (spell-Ctrl count) s

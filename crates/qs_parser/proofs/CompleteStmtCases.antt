@@ -1,5 +1,5 @@
 -- What a statement is, case by case.
-use Rattle.std.proofs.Common.{◌≡◌, ℕ, Bool, List, Option, sym, subst}
+use Rattle.std.proofs.Common.{ℕ, Bool, List, Option, sym, subst}
 use Rattle.qs_tree.specs.declared.assign.AssignOp.{AssignOp}
 use Rattle.qs_tree.specs.declared.expr.Expr.{Expr}
 use Rattle.qs_tree.specs.declared.expr.ExprKind.{ExprKind}

@@ -1,5 +1,5 @@
 -- By its first word, which branch the reader of a statement takes.
-use Rattle.std.proofs.Common.{◌≡◌, ℕ, Bool, true, false, ◌&&◌, ◌||◌, cond, codes, List, [], ◌∷◌, ◌++◌, map, option_map, Option, Some, None, refl, sym, ap, subst, ◌∙◌, append_assoc}
+use Rattle.std.proofs.Common.{◌≡◌, ℕ, true, false, ◌||◌, cond, codes, List, [], ◌∷◌, ◌++◌, Option, Some, None, refl, sym, ap, subst, ◌∙◌}
 use Rattle.std.specs.Str.{bytes_eq}
 use Rattle.qs_values.specs.Names.{is_name}
 use Rattle.qs_lexer.specs.declared.token.Token.{Token}
@@ -13,7 +13,6 @@ use Rattle.qs_tree.specs.declared.expr.TypeWord.{TypeWord}
 use Rattle.qs_tree.specs.declared.expr.TypeWord.TheVariants.{Bit, Int, Uint, Angle, Bool as BoolWord, Duration}
 use Rattle.qs_tree.specs.declared.gate.Call.{Call as Called}
 use Rattle.qs_tree.specs.declared.gate.Modifier.{Modifier}
-use Rattle.qs_tree.specs.declared.gate.Modifier.TheVariants.{Inv, Pow, Ctrl, NegCtrl}
 use Rattle.qs_tree.specs.declared.operand.Place.{Place}
 use Rattle.qs_tree.specs.declared.operand.Operand.{Operand}
 use Rattle.qs_tree.specs.declared.operand.Value.{Value}
@@ -23,13 +22,13 @@ use Rattle.qs_tree.specs.declared.statement.Stmt.{Stmt}
 use Rattle.qs_tree.specs.declared.statement.StmtKind.{StmtKind}
 use Rattle.qs_tree.specs.declared.statement.Body.{Body}
 use Rattle.qs_tree.specs.declared.statement.Range.{Range}
-use Rattle.qs_tree.specs.Spelling.{Piece, Spells, if_there, in_round, in_square, sign, sign_of_assign, spell, spell_modifier, spell_type, word, word_of_type}
+use Rattle.qs_tree.specs.Spelling.{Piece, Spells, sign, sign_of_assign, spell_modifier, spell_type, word, word_of_type}
 use Rattle.qs_tree.proofs.Spelled.{spell-Ctrl, spell-Inv, spell-NegCtrl, spell-Pow, spell-TypeExpr}
 use Rattle.qs_parser.specs.steps.Tokens.{Readers, Reads, has_sign}
-use Rattle.qs_parser.specs.steps.Statements.{assign_op, assignment_at, declaration_at, gate_call_at, is_assigned, is_modifier, named_stmt, stmt_of}
+use Rattle.qs_parser.specs.steps.Statements.{assign_op, assignment_at, declaration_at, gate_call_at, is_assigned, named_stmt, stmt_of}
 use Rattle.qs_parser.proofs.CompleteExprCases.{spells_as}
 use Rattle.qs_parser.proofs.CompleteStmtNames.{name_no_modifier, name_no_type, not_reserved}
-use Rattle.qs_parser.proofs.CompleteStmtCalls.{ModifierCase, is_ctrl, is_inv, is_negctrl, is_pow, modifier_case}
+use Rattle.qs_parser.proofs.CompleteStmtCalls.{ModifierCase, is_ctrl, is_inv, is_negctrl, is_pow, modifier_case, modifier_some}
 use Rattle.qs_parser.proofs.CompleteStmtSimple.{StmtRead}
 
 -- ---- types
@@ -70,25 +69,26 @@ unfolding stmt_of named_stmt
 name_branch text below renew left rest every v =
     rw (stmt_of, not_reserved text (codes "const") v refl, not_reserved text (codes "stretch") v refl, not_reserved text (codes "measure") v refl, not_reserved text (codes "reset") v refl, not_reserved text (codes "barrier") v refl, not_reserved text (codes "delay") v refl, not_reserved text (codes "box") v refl, not_reserved text (codes "if") v refl, not_reserved text (codes "while") v refl, not_reserved text (codes "for") v refl, not_reserved text (codes "break") v refl, not_reserved text (codes "continue") v refl, not_reserved text (codes "end") v refl, name_no_type text v, name_no_modifier text v, v) refl
 
+-- the operator of its sign
+pub op_of_sign : (op : AssignOp) → assign_op (sign_of_assign op) ≡ Some op
+op_of_sign assigns.Add = refl
+op_of_sign assigns.Sub = refl
+op_of_sign assigns.Mul = refl
+op_of_sign assigns.Div = refl
+op_of_sign assigns.Rem = refl
+op_of_sign assigns.BitAnd = refl
+op_of_sign assigns.BitOr = refl
+op_of_sign assigns.BitXor = refl
+op_of_sign assigns.ShiftLeft = refl
+op_of_sign assigns.ShiftRight = refl
+
 -- a sign that assigns, or a bracket, makes a place that is assigned to
 pub is_assigned_op : (op : AssignOp) (ps : List Piece) (front rest : List Token) → Spells (sign (sign_of_assign op) ++ ps) front → is_assigned (front ++ rest) ≡ true
 is_assigned_op op ps [] rest s = absurd s
 is_assigned_op op ps (t ∷ ts) rest s = of_sign t.kind t.text s.0.0.0 s.0.0.1
   where
-    of_op : (op : AssignOp) → assign_op (sign_of_assign op) ≡ Some op
-    of_op assigns.Add = refl
-    of_op assigns.Sub = refl
-    of_op assigns.Mul = refl
-    of_op assigns.Div = refl
-    of_op assigns.Rem = refl
-    of_op assigns.BitAnd = refl
-    of_op assigns.BitOr = refl
-    of_op assigns.BitXor = refl
-    of_op assigns.ShiftLeft = refl
-    of_op assigns.ShiftRight = refl
-
     of_sign : (k : _) (text : List ℕ) → k ≡ kind.Sign → text ≡ sign_of_assign op → is_assigned (record { span = t.span; kind = k; text = text } ∷ (ts ++ rest)) ≡ true
-    of_sign k text e f = rw (e, f, of_op op) refl
+    of_sign k text e f = rw (e, f, op_of_sign op) refl
 
 pub is_assigned_equals : (ps : List Piece) (front rest : List Token) → Spells (sign (codes "=") ++ ps) front → is_assigned (front ++ rest) ≡ true
 is_assigned_equals ps [] rest s = absurd s
@@ -138,11 +138,9 @@ starts_of _ (is_negctrl count) ps t ts s =
 pub modifier_starts : (m : Modifier) (ps : List Piece) (t : Token) (ts : List Token) → Spells (spell_modifier m ++ ps) (t ∷ ts) → ModifierStarts t ts
 modifier_starts m ps t ts s = starts_of m (modifier_case m) ps t ts s
 
-pub modifier_some : (m : Modifier) (ps : List Piece) → Spells (spell_modifier m ++ ps) [] → ⊥
-modifier_some m ps s = from m (modifier_case m) s
-  where
-    from : (m : Modifier) → ModifierCase m → Spells (spell_modifier m ++ ps) [] → ⊥
-    from _ is_inv s = spells_as [] (ap (λ (x : List Piece). x ++ ps) spell-Inv) s
-    from _ (is_pow e) s = spells_as [] (ap (λ (x : List Piece). x ++ ps) (spell-Pow e)) s
-    from _ (is_ctrl count) s = spells_as [] (ap (λ (x : List Piece). x ++ ps) (spell-Ctrl count)) s
-    from _ (is_negctrl count) s = spells_as [] (ap (λ (x : List Piece). x ++ ps) (spell-NegCtrl count)) s
+empty_front : (ps qs : List Piece) → Spells (ps ++ qs) [] → Spells ps []
+empty_front [] qs s = tt
+empty_front (p ∷ ps) qs s = s
+
+pub modifier_before_some : (m : Modifier) (ps : List Piece) → Spells (spell_modifier m ++ ps) [] → ⊥
+modifier_before_some m ps s = modifier_some m (modifier_case m) (empty_front (spell_modifier m) ps s)

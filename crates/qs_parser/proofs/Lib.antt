@@ -35,8 +35,12 @@ pub mod CompleteRanges
 pub mod CompleteNested
 pub mod CompleteIf
 pub mod CompleteWeak
+pub mod CompleteStmtChoice
+pub mod CompleteStmt
+pub mod CompleteKnot
 pub mod CompleteStarts
 pub mod CompleteTop
 pub mod CompleteRefusals
 pub mod CompleteGlobals
 pub mod CompleteGates
+pub mod CompleteCalibrations
