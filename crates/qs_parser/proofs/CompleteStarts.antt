@@ -136,7 +136,7 @@ starts_by qs text (t ∷ ts) rest e n b p s =
       nests = λ r. ap top_first w.1 ∙ p r;
     }
 
-type_begins : (type : TypeExpr) (ps : List Piece) (front rest : List Token) → Spells (spell_type type ++ ps) front → FirstWord (front ++ rest)
+pub type_begins : (type : TypeExpr) (ps : List Piece) (front rest : List Token) → Spells (spell_type type ++ ps) front → FirstWord (front ++ rest)
 type_begins type ps front rest h = from (out-TypeExpr type) (subst (λ (x : TypeExpr). Spells (spell_type x ++ ps) front) (sym (roll-out-TypeExpr type)) h)
   where
     from : (l : TypeExpr-F ExprKind Modifier Operand Value Item Param Body Range StmtKind Expr TypeExpr Called Place Stmt) → Spells (spell_type (roll-TypeExpr l) ++ ps) front → FirstWord (front ++ rest)

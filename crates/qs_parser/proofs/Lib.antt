@@ -44,3 +44,4 @@ pub mod CompleteRefusals
 pub mod CompleteGlobals
 pub mod CompleteGates
 pub mod CompleteCalibrations
+pub mod CompleteDefcals
