@@ -45,3 +45,4 @@ pub mod CompleteGlobals
 pub mod CompleteGates
 pub mod CompleteCalibrations
 pub mod CompleteDefcals
+pub mod CompleteStatement
