@@ -46,3 +46,4 @@ pub mod CompleteGates
 pub mod CompleteCalibrations
 pub mod CompleteDefcals
 pub mod CompleteStatement
+pub mod CompleteOnce

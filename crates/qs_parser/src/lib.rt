@@ -6,6 +6,6 @@ mod laws;
 mod refusal;
 mod stop;
 
-pub use laws::read_is_spelled;
+pub use laws::{parsed_once, read_is_spelled};
 pub use refusal::ParseRefusal;
 pub use stop::Stop;
