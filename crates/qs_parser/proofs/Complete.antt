@@ -1,9 +1,9 @@
 -- What is to be shown of the readers at a depth: a tree that follows the grammar and is spelled at the front is what they read.
-use Rattle.std.proofs.Common.{◌≡◌, ℕ, zero, suc, ◌+◌, ◌≤◌, Bool, true, false, codes, List, ◌++◌, length, map, Option, Some, None}
+use Rattle.std.proofs.Common.{◌≡◌, ℕ, zero, suc, ◌+◌, ◌≤◌, true, false, codes, List, ◌++◌, length, map, Option, Some, None}
 use Rattle.qs_lexer.specs.declared.token.Token.{Token}
 use Rattle.qs_tree.specs.declared.expr.Expr.{Expr}
 use Rattle.qs_tree.specs.declared.statement.Stmt.{Stmt}
-use Rattle.qs_tree.specs.Spelling.{Piece, Spells, in_braces, spell, spell_stmt}
+use Rattle.qs_tree.specs.Spelling.{Spells, in_braces, spell, spell_stmt}
 use Rattle.qs_tree.specs.WellFormed.{Features, block as block_of, may_nest, nested as nested_of, of_expr, of_stmt, unary_level}
 use Rattle.qs_parser.specs.steps.Tokens.{Readers, Reads, begins_sign, begins_word}
 use Rattle.qs_parser.specs.steps.Expressions.{bin_op_at}

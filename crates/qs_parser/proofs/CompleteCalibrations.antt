@@ -1,6 +1,5 @@
 -- Calibrations are read where they are spelled.
-use Rattle.std.proofs.Common.{◌≡◌, ℕ, zero, suc, ◌+◌, ◌≤◌, Bool, true, false, ◌&&◌, cond, codes, List, [], ◌∷◌, ◌++◌, length, map, option_map, Option, Some, None, refl, sym, ap, subst, ◌∙◌, append_assoc, arith, inl, inr}
-use Rattle.std.specs.List.{list_any}
+use Rattle.std.proofs.Common.{◌≡◌, ℕ, zero, suc, Bool, true, false, codes, List, [], ◌∷◌, ◌++◌, map, Option, Some, None, refl, sym, ap, subst, ◌∙◌, append_assoc, arith}
 use Rattle.std.specs.Str.{bytes_eq}
 use Rattle.std.proofs.lemmas.Bool.{and_parts}
 use Rattle.qs_values.specs.Names.{is_name}
@@ -17,8 +16,6 @@ use Rattle.qs_tree.specs.declared.name.Ident.{Ident}
 use Rattle.qs_tree.specs.declared.operand.Place.{Place}
 use Rattle.qs_tree.specs.declared.operand.Operand.{Operand}
 use Rattle.qs_tree.specs.declared.operand.Value.{Value}
-use Rattle.qs_tree.specs.declared.pulse.CalName.{CalName}
-use Rattle.qs_tree.specs.declared.pulse.CalName.TheVariants as calibrates
 use Rattle.qs_tree.specs.declared.pulse.Param.{Param}
 use Rattle.qs_tree.specs.declared.pulse.Item.{Item, out-Item, roll-Item, roll-out-Item}
 use Rattle.qs_tree.specs.declared.pulse.Item.TheVariants.{Port, ExternFrame, ExternWaveform, Frame, Return, Statement, rolls-Port, rolls-ExternFrame, rolls-ExternWaveform, rolls-Frame, rolls-Return, rolls-Statement}
@@ -27,26 +24,25 @@ use Rattle.qs_tree.specs.declared.statement.Range.{Range}
 use Rattle.qs_tree.specs.declared.statement.Stmt.{Stmt}
 use Rattle.qs_tree.specs.declared.statement.StmtKind.{StmtKind}
 use Rattle.qs_tree.specs.declared.statement.StmtKind.TheVariants.{Cal}
-use Rattle.qs_tree.specs.Spelling.{Piece, Sign, Word, Spells, at_place, in_braces, joined, name, sign, spell, spell_item, spell_stmt, spell_stmt_kind, word, word_if}
-use Rattle.qs_tree.specs.WellFormed.{Features, all as all_of, block, nested, nothing, may_nest, of_expr, of_item, of_stmt, of_stmt_kind, part, where_true}
+use Rattle.qs_tree.specs.Spelling.{Piece, Sign, Word, Spells, at_place, in_braces, joined, name, sign, spell, spell_item, spell_stmt, spell_stmt_kind, word}
+use Rattle.qs_tree.specs.WellFormed.{Features, all as all_of, block, nested, may_nest, of_expr, of_item, of_stmt, of_stmt_kind, part}
 use Rattle.qs_tree.proofs.Spelled.{spell-Cal, spell-ExternFrame, spell-ExternWaveform, spell-Frame, spell-Port, spell-Return, spell-Statement}
-use Rattle.qs_parser.specs.steps.Tokens.{◌>>=◌, Readers, Reads, after_sign, after_word, begins_sign, begins_word, has_word, name_at, one_less, up_to_brace}
+use Rattle.qs_parser.specs.steps.Tokens.{Readers, Reads, after_word, begins_sign, begins_word}
 use Rattle.qs_parser.specs.steps.Expressions.{whole_at}
 use Rattle.qs_parser.specs.steps.Knot.{below}
 use Rattle.qs_parser.specs.steps.Globals.{cal_at, extern_at, extern_frame_at, extern_waveform_at, frame_at, item_in, item_of, items_at, port_at, return_at, statement_item, top_of}
-use Rattle.qs_parser.specs.steps.Statements.{stmt_at, stopped}
 use Rattle.qs_parser.proofs.Featured.{features-Cal, features-ExternFrame, features-ExternWaveform, features-Frame, features-Port, features-Return, features-Statement}
-use Rattle.qs_parser.proofs.TokenPieces.{after_sign_at, after_word_at, begins_sign_at, begins_word_at, name_at_name, no_word_after, same_text}
+use Rattle.qs_parser.proofs.TokenPieces.{after_sign_at, after_word_at, begins_sign_at, begins_word_at, name_at_name, no_word_after}
 use Rattle.qs_parser.proofs.Complete.{ClosesStmt, Fits, IsCompleteBelow}
-use Rattle.qs_parser.proofs.CompleteExprParts.{after_last, fits_as, fits_nothing, fits_where}
-use Rattle.qs_parser.proofs.CompleteExprCases.{spells_as, unplaced}
+use Rattle.qs_parser.proofs.CompleteExprParts.{fits_as, fits_nothing, fits_where}
+use Rattle.qs_parser.proofs.CompleteExprCases.{spells_as}
 use Rattle.qs_parser.proofs.CompleteExpr.{complete-whole_at}
-use Rattle.qs_parser.proofs.CompleteStmtParts.{complete-stopped, next, regroup}
+use Rattle.qs_parser.proofs.CompleteStmtParts.{complete-stopped, next}
 use Rattle.qs_parser.proofs.CompleteStmtSimple.{closes_before}
 use Rattle.qs_parser.proofs.CompleteBegins.{BeginsWord, stmt_begins}
 use Rattle.qs_parser.proofs.CompleteBlocks.{IsCompletePart, complete-to_brace}
-use Rattle.qs_parser.proofs.CompleteStarts.{Starts, never_first, stmt_starts}
-use Rattle.qs_parser.proofs.CompleteStmt.{complete-stmt_at}
+use Rattle.qs_parser.proofs.CompleteStarts.{never_first, stmt_starts, never_words, unlisted}
+use Rattle.qs_parser.proofs.CompleteStmt.{complete-stmt_at, head_same}
 use Rattle.qs_parser.proofs.CompleteKnot.{complete-below}
 use Rattle.qs_parser.proofs.CompleteGlobals.{TopRead, by_top, fits_inside, fits_top}
 
@@ -172,18 +168,6 @@ return_read span e b d renew left after front rest h f s =
     let read : whole_at b renew left (front ++ rest) ≡ Some (e, after, two.last ++ rest) = ap (whole_at b renew left) two.is ∙ complete-whole_at e b d renew left after two.first (two.last ++ rest) h f two.spells_first (closes_before two.last rest two.spells_last) in
     rw (return_at, read) (complete-stopped (Return span e) after two.last rest two.spells_last)
 
--- a word that never begins a statement isn't the one that does
-first_other : (text other : List ℕ) → never_first text ≡ false → never_first other ≡ true → bytes_eq text other ≡ false
-first_other text other n y = from (bytes_eq text other) refl
-  where
-    clash : (b : Bool) → b ≡ false → b ≡ true → ⊥
-    clash true e h = absurd cc
-    clash false e h = absurd cc
-
-    from : (b : Bool) → bytes_eq text other ≡ b → bytes_eq text other ≡ false
-    from false e = e
-    from true e = absurd (clash (never_first text) n (ap never_first (same_text text other e) ∙ y))
-
 statement_of : (s : Stmt) (d renew left after : ℕ) (front rest : List Token) → Fits (of_stmt s) d renew left after → may_nest (of_stmt s).standing ≡ true → Spells (spell_stmt s) front → ClosesStmt (of_stmt s) rest → statement_item (below d) renew left (front ++ rest) ≡ Some (Statement s, after, rest)
 unfolding statement_item
 statement_of s d renew left after front rest f n p c = rw (statement_item, complete-stmt_at s (below d) d renew left after front rest (complete-below d) f n p c) refl
@@ -191,13 +175,13 @@ statement_of s d renew left after front rest f n p c = rw (statement_item, compl
 -- a statement is read as none of the other items
 statement_branch : (b : Option Readers) (renew left : ℕ) (span : Span) (text : List ℕ) (rest every : List Token) → never_first text ≡ false → item_of b renew left span text rest every ≡ statement_item b renew left every
 unfolding item_of
-statement_branch b renew left span text rest every n = rw (item_of, first_other text (codes "extern") n refl, first_other text (codes "port") n refl, first_other text (codes "frame") n refl, first_other text (codes "return") n refl) refl
+statement_branch b renew left span text rest every n = rw (item_of, unlisted never_words text (codes "extern") n refl, unlisted never_words text (codes "port") n refl, unlisted never_words text (codes "frame") n refl, unlisted never_words text (codes "return") n refl) refl
 
 statement_read : (s : Stmt) (d renew left after : ℕ) (front rest : List Token) → Fits (of_stmt s) d renew left after → may_nest (of_stmt s).standing ≡ true → Spells (spell_stmt s) front → ClosesStmt (of_stmt s) rest → ItemRead (Statement s) (below d) renew left after front rest
 statement_read s d renew left after [] rest f n p c = absurd (spells_as [] (stmt_begins s).is p)
 statement_read s d renew left after (t ∷ ts) rest f n p c =
     let w = (stmt_starts s (t ∷ ts) rest f.follows p).word in
-    let same : t ≡ w.t = heads t w.t (ts ++ rest) w.us w.is in
+    let same : t ≡ w.t = head_same t w.t (ts ++ rest) w.us w.is in
     record {
       t = t;
       ts = ts;
@@ -205,9 +189,6 @@ statement_read s d renew left after (t ∷ ts) rest f n p c =
       is_word = ap (λ (x : Token). x.kind) same ∙ w.is_word;
       read = statement_branch (below d) renew left t.span t.text (ts ++ rest) (t ∷ (ts ++ rest)) (ap (λ (x : Token). never_first x.text) same ∙ w.first) ∙ statement_of s d renew left after (t ∷ ts) rest f n p c;
     }
-  where
-    heads : (x y : Token) (us vs : List Token) → x ∷ us ≡ y ∷ vs → x ≡ y
-    heads x y us vs e = cc
 
 -- an item is read at the depth of the readers below
 item_read : (x : Item) → ItemCase x → (d renew left after : ℕ) (front rest : List Token) → Fits (of_item x) d renew left after → may_nest (of_item x).standing ≡ true → Spells (spell_item x) front → ClosesStmt (of_item x) rest → ItemRead x (below d) renew left after front rest

@@ -1,5 +1,5 @@
 -- Definitions of calibrations are read where they are spelled.
-use Rattle.std.proofs.Common.{◌≡◌, ℕ, zero, suc, ◌+◌, ◌-◌, ◌≤◌, Bool, true, false, ◌&&◌, ◌||◌, cond, codes, List, [], ◌∷◌, ◌++◌, length, map, option_map, Option, Some, None, refl, sym, ap, subst, ◌∙◌, append_assoc, arith, inl, inr}
+use Rattle.std.proofs.Common.{◌≡◌, ℕ, zero, suc, ◌-◌, ◌≤◌, Bool, true, false, ◌&&◌, codes, List, [], ◌∷◌, ◌++◌, map, option_map, Option, Some, None, refl, sym, ap, subst, ◌∙◌, append_assoc, arith, inl, inr}
 use Rattle.std.specs.Prelude.{◌⊎◌}
 use Rattle.std.specs.Str.{bytes_eq}
 use Rattle.std.proofs.lemmas.Bool.{and_parts}
@@ -27,26 +27,27 @@ use Rattle.qs_tree.specs.declared.statement.Stmt.{Stmt}
 use Rattle.qs_tree.specs.declared.statement.StmtKind.{StmtKind}
 use Rattle.qs_tree.specs.declared.statement.StmtKind.TheVariants.{Defcal}
 use Rattle.qs_tree.specs.Spelling.{Piece, Sign, Word, Spells, calibrated, given_bit, if_there, in_braces, in_round, joined, name, sign, sign_of_bin, spell, spell_item, spell_kind, spell_operand, spell_param, spell_stmt_kind, spell_type, truth_word, with_commas, word, after_commas as spell_after_commas}
-use Rattle.qs_tree.specs.WellFormed.{Features, all as all_of, binds, block, both, if_in_brackets, in_brackets, is_calibrated, is_some, nothing, of_expr, of_item, of_kind, of_operand, of_param, of_stmt_kind, of_type}
-use Rattle.qs_tree.proofs.Spelled.{spell-Binary, spell-Call, spell-Cast, spell-Decimal, spell-Defcal, spell-DurationOf, spell-Expr, spell-Fixed, spell-Free, spell-Group, spell-Index, spell-Name, spell-Number, spell-Physical, spell-Text, spell-Time, spell-Truth, spell-Unary, spell-Whole}
-use Rattle.qs_parser.specs.steps.Tokens.{◌>>=◌, Readers, Reads, after_sign, after_word, begins_sign, commas, has_word, name_at, one_less}
+use Rattle.qs_tree.specs.WellFormed.{Features, all as all_of, binds, block, both, if_in_brackets, is_calibrated, is_some, of_expr, of_item, of_kind, of_operand, of_param, of_stmt_kind, of_type}
+use Rattle.qs_tree.proofs.Spelled.{spell-Binary, spell-Call, spell-Cast, spell-Decimal, spell-Defcal, spell-DurationOf, spell-Fixed, spell-Free, spell-Group, spell-Index, spell-Name, spell-Number, spell-Physical, spell-Text, spell-Time, spell-Truth, spell-Unary, spell-Whole}
+use Rattle.qs_parser.specs.steps.Tokens.{Readers, Reads, after_sign, after_word, begins_sign, commas, has_word, name_at}
 use Rattle.qs_parser.specs.steps.Expressions.{type_word}
 use Rattle.qs_parser.specs.steps.Knot.{below}
 use Rattle.qs_parser.specs.steps.Globals.{cal_name_at, cal_params_at, defcal_at, fixed_at, free_at, gives_at, items_at, param_at, params_to, top_of}
 use Rattle.qs_parser.specs.steps.Statements.{operands_at, type_at}
 use Rattle.qs_parser.proofs.Featured.{features-Binary, features-Call, features-Cast, features-Defcal, features-Expr, features-Fixed, features-Free, features-Index, features-Name, features-TypeExpr}
-use Rattle.qs_parser.proofs.TokenPieces.{Left, Split, after_sign_at, after_word_at, begins_sign_at, begins_word_at, name_at_name, no_sign_after, no_word_after, spells_split}
+use Rattle.qs_parser.proofs.TokenPieces.{after_sign_at, after_word_at, begins_sign_at, begins_word_at, name_at_name, no_sign_after, no_word_after, nothing_spelled}
 use Rattle.qs_parser.proofs.Spent.{Spent}
 use Rattle.qs_parser.proofs.Complete.{ClosesExpr, Fits, IsCompleteBelow}
 use Rattle.qs_parser.proofs.CompleteExprParts.{after_last, close_comma, close_round, closes_at, complete-commas, fits_as, fits_both, fits_nothing, fits_where, most_is}
-use Rattle.qs_parser.proofs.CompleteExprCases.{Case, case_of, first_token, is_binary, is_call, is_cast, is_decimal, is_duration, is_group, is_index, is_name_alone, is_number, is_physical, is_text, is_time, is_truth, is_unary, is_whole, no_bracket_first, spells_as, unplaced}
+use Rattle.qs_parser.proofs.CompleteExprCases.{Case, case_of, first_token, is_binary, is_call, is_cast, is_decimal, is_duration, is_group, is_index, is_name_alone, is_number, is_physical, is_text, is_time, is_truth, is_unary, is_whole, no_bracket_first, spells_as}
 use Rattle.qs_parser.proofs.CompleteExpr.{complete-whole_at}
 use Rattle.qs_parser.proofs.CompleteStmtParts.{NoCount, NoIndex, complete-operands_at, complete-type_at, next, operand_no_sign, regroup}
 use Rattle.qs_parser.proofs.CompleteStmtNames.{name_no_type, not_reserved}
 use Rattle.qs_parser.proofs.CompleteKnot.{complete-below}
-use Rattle.qs_parser.proofs.CompleteStarts.{FirstWord, type_begins}
-use Rattle.qs_parser.proofs.CompleteGlobals.{TopRead, by_top, fits_inside, fits_top, fits_zero, name_alone, name_no_sign}
+use Rattle.qs_parser.proofs.CompleteStarts.{type_begins}
+use Rattle.qs_parser.proofs.CompleteGlobals.{TopRead, by_top, fits_inside, fits_top, name_alone, name_no_sign}
 use Rattle.qs_parser.proofs.CompleteCalibrations.{complete-items_at}
+use Rattle.qs_parser.proofs.SoundCalibrations.{params_features}
 
 -- ---- how many operators may come
 
@@ -218,13 +219,8 @@ params_to_read (p ∷ ps) b d renew left after front rest h f s =
     let other : after_sign (codes ")") (front ++ rest) ≡ None = no_sign_after (codes ")") (front ++ rest) (ap (begins_sign (codes ")")) first.is ∙ param_no_bracket p (param_case p) first.first (first.last ++ rest) first.spells_first) in
     let two = next (with_commas (map spell_param (p ∷ ps))) (sign (codes ")")) front rest s in
     let read : commas (param_at b renew) left (front ++ rest) ≡ Some (p ∷ ps, after, two.last ++ rest) =
-        ap (commas (param_at b renew) left) two.is ∙ complete-commas spell_param of_param ClosesExpr d renew (param_at b renew) (λ x l a fr re g t c. param_read x (param_case x) b d renew l a fr re h g t c) (λ qs fr re t. closes_at (codes ",") close_comma 10 qs fr re t) (p ∷ ps) left after two.first (two.last ++ rest) refl f two.spells_first (closes_at (codes ")") close_round 10 [] two.last rest two.spells_last) (begins_sign_at (codes ",") (record { shows = Sign (codes ")"); places = [] }) [] two.last rest two.spells_last) in
+    ap (commas (param_at b renew) left) two.is ∙ complete-commas spell_param of_param ClosesExpr d renew (param_at b renew) (λ x l a fr re g t c. param_read x (param_case x) b d renew l a fr re h g t c) (λ qs fr re t. closes_at (codes ",") close_comma 10 qs fr re t) (p ∷ ps) left after two.first (two.last ++ rest) refl f two.spells_first (closes_at (codes ")") close_round 10 [] two.last rest two.spells_last) (begins_sign_at (codes ",") (record { shows = Sign (codes ")"); places = [] }) [] two.last rest two.spells_last) in
     rw (other, params_to, read, after_last (codes ")") two.last rest two.spells_last) refl
-
--- the features of the parameters of a calibration
-abbrev params_features : Option (List Features) → Features
-params_features None = nothing
-params_features (Some ps) = in_brackets (all_of ps)
 
 cal_params_some : (ps : List Param) (i renew left after : ℕ) (front rest : List Token) → Fits (all_of (map of_param ps)) i renew left after → Spells (in_round (with_commas (map spell_param ps))) front → cal_params_at (suc i) renew left (front ++ rest) ≡ Some (Some ps, after, rest)
 unfolding cal_params_at
@@ -261,10 +257,6 @@ cal_name_left calibrates.Reset ps front rest v s =
     let one = after_word_at (codes "reset") ps front rest s in
     let m : after_word (codes "measure") (front ++ rest) ≡ None = no_word_after (codes "measure") (front ++ rest) (begins_word_at (codes "measure") (record { shows = Word (codes "reset"); places = [] }) ps front rest s) in
     record { front = one.front; is = rw (cal_name_at, m, one.is) refl; spells = one.spells }
-
-nothing_spelled : (front : List Token) → Spells [] front → front ≡ []
-nothing_spelled [] s = refl
-nothing_spelled (t ∷ ts) s = absurd s
 
 last_word : (text : List ℕ) (front rest : List Token) → Spells (word text) front → after_word text (front ++ rest) ≡ Some rest
 last_word text front rest s =

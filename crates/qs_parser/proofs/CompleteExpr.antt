@@ -1,5 +1,5 @@
 -- Expressions are read where they are spelled.
-use Rattle.std.proofs.Common.{◌≡◌, ℕ, zero, suc, ◌+◌, ◌-◌, ◌≤◌, max, Bool, true, false, ◌&&◌, cond, codes, List, [], ◌∷◌, ◌++◌, length, Option, Some, None, refl, sym, ap, subst, ◌∙◌, append_assoc, length-append, arith, inl, inr}
+use Rattle.std.proofs.Common.{◌≡◌, ℕ, zero, suc, ◌+◌, ◌-◌, ◌≤◌, max, Bool, true, false, ◌&&◌, cond, codes, List, [], ◌∷◌, ◌++◌, length, Option, Some, None, refl, sym, ap, ◌∙◌, append_assoc, length-append, arith, inl, inr}
 use Rattle.std.specs.Prelude.{◌⊎◌, nat_eq, nat_le, nat_lt}
 use Rattle.std.specs.Str.{bytes_eq}
 use Rattle.std.proofs.lemmas.Bool.{and_parts, eqb-true, leb-true, ltb-false, ltb-true}
@@ -12,20 +12,20 @@ use Rattle.qs_tree.specs.declared.operator.BinOp.TheVariants.{Power, Mul, Div, R
 use Rattle.qs_tree.specs.declared.expr.Expr.{Expr}
 use Rattle.qs_tree.specs.declared.expr.ExprKind.{ExprKind}
 use Rattle.qs_tree.specs.declared.expr.ExprKind.TheOpen as layer
-use Rattle.qs_tree.specs.declared.expr.ExprKind.TheVariants.{Whole, Decimal, Time, Text, Truth, Name, Index, Physical, Call, Cast, DurationOf, Group, Unary, Binary, Number}
-use Rattle.qs_tree.specs.Spelling.{Piece, Sign, Spells, sign, sign_of_bin, sign_of_un, spell, spell_kind}
+use Rattle.qs_tree.specs.declared.expr.ExprKind.TheVariants.{Unary, Binary}
+use Rattle.qs_tree.specs.Spelling.{Spells, sign, sign_of_bin, sign_of_un, spell, spell_kind}
 use Rattle.qs_tree.specs.WellFormed.{Features, binds, kind_features, level_of, of_expr, of_kind, primary_level, unary_level}
 use Rattle.qs_tree.proofs.Spelled.{spell-Binary, spell-Unary}
-use Rattle.qs_parser.specs.steps.Tokens.{◌>>=◌, Readers, Reads, after_sign, begins_sign, is_sign, one_less, renewed}
-use Rattle.qs_parser.specs.steps.Expressions.{bin_op, bin_op_at, binary, chained, expr_at, levels, placed, power, primary, raised, signed, tight, un_op, un_op_at, unary, whole_at}
+use Rattle.qs_parser.specs.steps.Tokens.{◌>>=◌, Readers, Reads, after_sign, is_sign, one_less, renewed}
+use Rattle.qs_parser.specs.steps.Expressions.{bin_op, bin_op_at, binary, chained, expr_at, placed, power, primary, raised, signed, tight, un_op, un_op_at, unary, whole_at}
 use Rattle.qs_parser.specs.steps.Knot.{readers}
 use Rattle.qs_parser.proofs.Featured.{features-Expr, features-Whole, features-Decimal, features-Time, features-Text, features-Truth, features-Name, features-Index, features-Physical, features-Call, features-Cast, features-DurationOf, features-Group, features-Unary, features-Binary, features-Number}
-use Rattle.qs_parser.proofs.TokenPieces.{Left, Split, after_sign_at, no_sign_after, same_text, spells_split}
+use Rattle.qs_parser.proofs.TokenPieces.{Split, no_sign_after, spells_split}
 use Rattle.qs_parser.proofs.Spent.{Spent}
-use Rattle.qs_parser.proofs.Complete.{Closes, ClosesExpr, ClosesUnary, Fits, IsComplete, IsCompleteBelow}
+use Rattle.qs_parser.proofs.Complete.{Closes, ClosesExpr, ClosesUnary, Fits, IsCompleteBelow}
 use Rattle.qs_parser.proofs.CompleteExprParts.{bin_op_at_sign, inside, most_is}
 use Rattle.qs_parser.proofs.CompleteExprCases.{Case, FirstToken, case_of, cons_head, first_token, is_binary, is_call, is_cast, is_decimal, is_duration, is_group, is_index, is_name_alone, is_number, is_physical, is_text, is_time, is_truth, is_unary, is_whole, spells_as}
-use Rattle.qs_parser.proofs.CompleteExprPrimary.{Bare, PrimaryRead, Within, complete-primary, kind_fits, kind_level}
+use Rattle.qs_parser.proofs.CompleteExprPrimary.{Bare, Within, complete-primary, kind_fits, kind_level}
 
 -- ---- an operator before its operand, an operator between two, or none
 

@@ -1,5 +1,5 @@
 -- What an expression is, case by case, and how its spelling begins.
-use Rattle.std.proofs.Common.{◌≡◌, ℕ, zero, suc, ◌+◌, ◌≤◌, Bool, true, false, ◌&&◌, cond, codes, List, [], ◌∷◌, ◌++◌, length, map, Option, Some, None, refl, sym, ap, subst, ◌∙◌, append_assoc, arith}
+use Rattle.std.proofs.Common.{◌≡◌, ℕ, zero, suc, ◌≤◌, Bool, false, codes, List, [], ◌∷◌, ◌++◌, refl, sym, ap, subst, ◌∙◌, append_assoc, arith}
 use Rattle.std.specs.Str.{bytes_eq}
 use Rattle.qs_values.specs.declared.number.Frac.{Frac}
 use Rattle.qs_values.specs.declared.number.Num.{Num}
@@ -9,7 +9,6 @@ use Rattle.qs_lexer.specs.declared.token.Unit.{Unit as TimeUnit}
 use Rattle.qs_tree.specs.declared.operator.UnOp.{UnOp}
 use Rattle.qs_tree.specs.declared.operator.UnOp.TheVariants.{Not, Neg, Invert}
 use Rattle.qs_tree.specs.declared.operator.BinOp.{BinOp}
-use Rattle.qs_tree.specs.declared.expr.TypeWord.{TypeWord}
 use Rattle.qs_tree.specs.declared.expr.Expr.{Expr}
 use Rattle.qs_tree.specs.declared.expr.TypeExpr.{TypeExpr, TypeExpr-F, out-TypeExpr, roll-TypeExpr, roll-out-TypeExpr}
 use Rattle.qs_tree.specs.declared.gate.Call.{Call as Called}
@@ -26,7 +25,7 @@ use Rattle.qs_tree.specs.declared.statement.Range.{Range}
 use Rattle.qs_tree.specs.declared.expr.ExprKind.{ExprKind, out-ExprKind, roll-ExprKind, roll-out-ExprKind}
 use Rattle.qs_tree.specs.declared.expr.ExprKind.TheOpen as layer
 use Rattle.qs_tree.specs.declared.expr.ExprKind.TheVariants.{Whole, Decimal, Time, Text, Truth, Name, Index, Physical, Call, Cast, DurationOf, Group, Unary, Binary, Number, rolls-Whole, rolls-Decimal, rolls-Time, rolls-Text, rolls-Truth, rolls-Name, rolls-Index, rolls-Physical, rolls-Call, rolls-Cast, rolls-DurationOf, rolls-Group, rolls-Unary, rolls-Binary, rolls-Number}
-use Rattle.qs_tree.specs.Spelling.{Piece, Sign, Word, Qubit, Integer, Fraction, Period, Quoted, Spells, at_place, in_round, in_square, sign, sign_of_bin, sign_of_un, spell, spell_kind, spell_type, truth_word, word, word_of_type, if_there}
+use Rattle.qs_tree.specs.Spelling.{Piece, Sign, Word, Qubit, Integer, Fraction, Period, Quoted, Spells, at_place, in_round, sign, sign_of_bin, sign_of_un, spell, spell_kind, spell_type, truth_word, word_of_type}
 use Rattle.qs_tree.specs.WellFormed.{Features, of_expr, of_kind}
 use Rattle.qs_tree.proofs.Spelled.{spell-Expr, spell-Whole, spell-Decimal, spell-Time, spell-Text, spell-Truth, spell-Name, spell-Index, spell-Physical, spell-Call, spell-Cast, spell-DurationOf, spell-Group, spell-Unary, spell-Binary, spell-Number, spell-TypeExpr}
 use Rattle.qs_parser.specs.steps.Tokens.{begins_sign, is_sign}

@@ -1,17 +1,17 @@
 -- Lists with commas between, and expressions in brackets, are read where they are spelled.
-use Rattle.std.proofs.Common.{◌≡◌, ℕ, zero, suc, ◌+◌, ◌-◌, ◌≤◌, max, Bool, true, false, ◌&&◌, cond, codes, List, [], ◌∷◌, ◌++◌, length, map, Option, Some, None, refl, sym, ap, subst, ◌∙◌, append_assoc, length-append, arith, inl, inr}
-use Rattle.std.specs.Prelude.{◌⊎◌, nat_eq}
+use Rattle.std.proofs.Common.{◌≡◌, ℕ, zero, suc, ◌+◌, ◌-◌, ◌≤◌, max, Bool, true, false, cond, codes, List, [], ◌∷◌, ◌++◌, length, map, Option, Some, None, refl, sym, ap, subst, ◌∙◌, append_assoc, length-append, arith, inl, inr}
+use Rattle.std.specs.Prelude.{nat_eq}
 use Rattle.std.specs.Str.{bytes_eq}
 use Rattle.std.proofs.lemmas.Bool.{and_parts}
 use Rattle.qs_lexer.specs.declared.token.Token.{Token}
 use Rattle.qs_lexer.specs.declared.token.TokenKind.TheVariants as kind
 use Rattle.qs_tree.specs.declared.expr.Expr.{Expr}
-use Rattle.qs_tree.specs.Spelling.{Piece, Sign, Spells, in_round, sign, spell, with_commas, after_commas as spell_after_commas}
+use Rattle.qs_tree.specs.Spelling.{Piece, Sign, Spells, sign, spell, with_commas, after_commas as spell_after_commas}
 use Rattle.qs_tree.specs.WellFormed.{Features, all, both, in_brackets, is_some, nothing, of_expr, where_true}
-use Rattle.qs_parser.specs.steps.Tokens.{◌>>=◌, Readers, Reads, after_commas, after_sign, begins_sign, commas, is_sign, renewed}
-use Rattle.qs_parser.specs.steps.Expressions.{args_at, args_to, bin_op, bin_op_at, closed, enclosed}
-use Rattle.qs_parser.proofs.TokenPieces.{Left, Split, after_sign_at, bind_at, no_sign_after, sign_of_piece, spells_length, spells_split, text_itself}
-use Rattle.qs_parser.proofs.Spent.{Spent, SpentBetween, spent_split}
+use Rattle.qs_parser.specs.steps.Tokens.{◌>>=◌, Readers, Reads, after_commas, after_sign, begins_sign, commas, renewed}
+use Rattle.qs_parser.specs.steps.Expressions.{bin_op, bin_op_at, closed, enclosed}
+use Rattle.qs_parser.proofs.TokenPieces.{Left, Split, after_sign_at, no_sign_after, sign_of_piece, spells_split, nothing_spelled}
+use Rattle.qs_parser.proofs.Spent.{Spent, spent_split}
 use Rattle.qs_parser.proofs.Featured.{features-Expr}
 use Rattle.qs_parser.proofs.Complete.{Closes, ClosesExpr, Fits, IsComplete, IsCompleteBelow}
 
@@ -186,10 +186,6 @@ complete-commas spelled features Ends d renew item h k (x ∷ xs) left after fro
 pub after_last : (text : List ℕ) (front rest : List Token) → Spells (sign text) front → after_sign text (front ++ rest) ≡ Some rest
 after_last text front rest s = from (after_sign_at text [] front rest s)
   where
-    nothing_spelled : (us : List Token) → Spells [] us → us ≡ []
-    nothing_spelled [] h = refl
-    nothing_spelled (t ∷ ts) h = absurd h
-
     from : Left [] (after_sign text (front ++ rest)) rest → after_sign text (front ++ rest) ≡ Some rest
     from l = l.is ∙ ap (λ (us : List Token). Some (us ++ rest)) (nothing_spelled l.front l.spells)
 

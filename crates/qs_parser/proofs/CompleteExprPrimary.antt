@@ -1,5 +1,5 @@
 -- What binds most tightly is read where it is spelled.
-use Rattle.std.proofs.Common.{◌≡◌, ℕ, zero, suc, ◌+◌, ◌≤◌, Bool, true, false, ◌&&◌, not, cond, codes, List, [], ◌∷◌, ◌++◌, length, map, option_map, Option, Some, None, refl, sym, ap, subst, ◌∙◌, append_assoc, arith, inl, inr}
+use Rattle.std.proofs.Common.{◌≡◌, ℕ, ◌+◌, ◌≤◌, Bool, true, false, not, cond, codes, List, [], ◌∷◌, ◌++◌, map, Option, Some, None, refl, sym, ap, subst, ◌∙◌, append_assoc, arith, inl}
 use Rattle.std.specs.Str.{bytes_eq}
 use Rattle.std.proofs.lemmas.Bool.{and_parts, and_right}
 use Rattle.qs_values.specs.Names.{is_name, is_reserved}
@@ -9,7 +9,7 @@ use Rattle.qs_lexer.specs.declared.token.TokenKind.{TokenKind}
 use Rattle.qs_lexer.specs.declared.token.TokenKind.TheVariants as kind
 use Rattle.qs_tree.specs.declared.expr.Expr.{Expr}
 use Rattle.qs_tree.specs.declared.expr.ExprKind.{ExprKind}
-use Rattle.qs_tree.specs.declared.expr.ExprKind.TheVariants.{Whole, Decimal, Time, Text, Truth, Name, Index, Physical, Call, Cast, DurationOf, Group, Unary, Binary, Number}
+use Rattle.qs_tree.specs.declared.expr.ExprKind.TheVariants.{Whole, Decimal, Time, Text, Truth, Name, Index, Physical, Call, Cast, DurationOf, Group, Unary, Binary}
 use Rattle.qs_tree.specs.declared.expr.TypeExpr.{TypeExpr, TypeExpr-F, out-TypeExpr, roll-TypeExpr, roll-out-TypeExpr}
 use Rattle.qs_tree.specs.declared.expr.TypeWord.{TypeWord}
 use Rattle.qs_tree.specs.declared.expr.TypeWord.TheVariants.{Bit, Int, Uint, Angle, Bool as BoolWord, Duration}
@@ -27,16 +27,16 @@ use Rattle.qs_tree.specs.declared.statement.Stmt.{Stmt}
 use Rattle.qs_tree.specs.declared.statement.StmtKind.{StmtKind}
 use Rattle.qs_tree.specs.declared.statement.Body.{Body}
 use Rattle.qs_tree.specs.declared.statement.Range.{Range}
-use Rattle.qs_tree.specs.Spelling.{Piece, Shown, Sign, Word, Qubit, Integer, Fraction, Period, Quoted, Spells, piece, in_braces, in_round, in_square, sign, spell, spell_kind, spell_stmt, spell_type, truth_word, with_commas, word, word_of_type, after_commas as spell_after_commas}
+use Rattle.qs_tree.specs.Spelling.{Shown, Sign, Word, Qubit, Integer, Fraction, Period, Quoted, Spells, piece, in_braces, in_round, in_square, sign, spell, spell_kind, spell_stmt, spell_type, truth_word, with_commas, word, word_of_type, after_commas as spell_after_commas}
 use Rattle.qs_tree.specs.WellFormed.{Features, all, block, both, in_brackets, level_of, nothing, may_have_width, of_expr, of_kind, of_stmt, of_type, primary_level, unary_level}
-use Rattle.qs_tree.proofs.Spelled.{spell-Expr, spell-Whole, spell-Decimal, spell-Time, spell-Text, spell-Truth, spell-Name, spell-Index, spell-Physical, spell-Call, spell-Cast, spell-DurationOf, spell-Group, spell-Number, spell-TypeExpr}
-use Rattle.qs_parser.specs.steps.Tokens.{◌>>=◌, Readers, Reads, after_sign, begins_sign, is_sign, renewed}
-use Rattle.qs_parser.specs.steps.Expressions.{args_at, args_to, cast_at, duration_at, group_at, has_width, kind_at, named_at, placed, primary, type_of, type_word, un_op, un_op_at, word_at}
+use Rattle.qs_tree.proofs.Spelled.{spell-Whole, spell-Decimal, spell-Time, spell-Text, spell-Truth, spell-Name, spell-Index, spell-Physical, spell-Call, spell-Cast, spell-DurationOf, spell-Group, spell-Number, spell-TypeExpr}
+use Rattle.qs_parser.specs.steps.Tokens.{Readers, Reads, after_sign, begins_sign, is_sign, renewed}
+use Rattle.qs_parser.specs.steps.Expressions.{args_at, args_to, cast_at, duration_at, group_at, has_width, kind_at, named_at, primary, type_of, type_word, un_op, un_op_at, word_at}
 use Rattle.qs_parser.proofs.Featured.{features-Expr, features-Whole, features-Decimal, features-Time, features-Text, features-Truth, features-Name, features-Index, features-Physical, features-Call, features-Cast, features-DurationOf, features-Group, features-Unary, features-Binary, features-TypeExpr}
-use Rattle.qs_parser.proofs.TokenPieces.{Left, Split, after_sign_at, no_sign_after, same_text, sign_of_piece, spells_split, text_itself}
-use Rattle.qs_parser.proofs.Complete.{Closes, ClosesExpr, Fits, IsComplete, IsCompleteBelow}
-use Rattle.qs_parser.proofs.CompleteExprParts.{Inside, after_last, begins_other, close_comma, close_round, close_square, closes_at, complete-closed, complete-commas, complete-enclosed, complete-renewed, fits_as, fits_both, fits_nothing, fits_where, inside}
-use Rattle.qs_parser.proofs.CompleteExprCases.{Case, FirstToken, case_of, first_token, is_binary, is_call, is_cast, is_decimal, is_duration, is_group, is_index, is_name_alone, is_number, is_physical, is_text, is_time, is_truth, is_unary, is_whole, no_bracket_first, spells_as, unplaced}
+use Rattle.qs_parser.proofs.TokenPieces.{Left, Split, after_sign_at, no_sign_after, same_text, sign_of_piece, spells_split}
+use Rattle.qs_parser.proofs.Complete.{ClosesExpr, Fits, IsComplete, IsCompleteBelow}
+use Rattle.qs_parser.proofs.CompleteExprParts.{after_last, begins_other, close_comma, close_round, close_square, closes_at, complete-closed, complete-commas, complete-enclosed, complete-renewed, fits_as, fits_both, fits_nothing, fits_where, inside}
+use Rattle.qs_parser.proofs.CompleteExprCases.{Case, case_of, first_token, is_binary, is_call, is_cast, is_decimal, is_duration, is_group, is_index, is_name_alone, is_number, is_physical, is_text, is_time, is_truth, is_unary, is_whole, no_bracket_first, spells_as, unplaced}
 
 -- ---- arguments
 

@@ -1,5 +1,5 @@
 -- Gates are read where they are spelled.
-use Rattle.std.proofs.Common.{◌≡◌, ℕ, zero, suc, ◌+◌, ◌≤◌, Bool, true, false, ◌&&◌, codes, List, [], ◌∷◌, ◌++◌, length, map, option_map, Option, Some, None, refl, sym, ap, subst, ◌∙◌, append_assoc, arith}
+use Rattle.std.proofs.Common.{◌≡◌, ℕ, zero, suc, Bool, true, false, ◌&&◌, codes, List, [], ◌∷◌, ◌++◌, map, option_map, Option, Some, None, refl, sym, ap, subst, ◌∙◌, append_assoc, arith}
 use Rattle.std.specs.List.{list_all}
 use Rattle.std.proofs.lemmas.Bool.{and_parts}
 use Rattle.std.proofs.lemmas.List.Folds.{list_all-map}
@@ -22,17 +22,16 @@ use Rattle.qs_tree.specs.declared.statement.Range.{Range}
 use Rattle.qs_tree.specs.declared.statement.Stmt.{Stmt}
 use Rattle.qs_tree.specs.declared.statement.StmtKind.{StmtKind}
 use Rattle.qs_tree.specs.declared.statement.StmtKind.TheVariants.{Include, DefcalGrammar, Qubit, Input, Output, Gate, Cal, Defcal, Init, Declare, Stretch, GateCall, Assign, Update, Measure, Reset, Barrier, Delay, Box, If, While, For, Break, Continue, End}
-use Rattle.qs_tree.specs.Spelling.{Piece, Sign, Word, Spells, at_place, if_there, in_braces, in_round, joined, name, names, sign, spell_stmt, spell_stmt_kind, word}
+use Rattle.qs_tree.specs.Spelling.{Piece, Sign, Word, Spells, if_there, in_braces, in_round, joined, name, names, sign, spell_stmt, spell_stmt_kind}
 use Rattle.qs_tree.specs.WellFormed.{AsCall, Features, all as all_of, are_names, are_params, block, both, brackets_of, if_in_brackets, is_call, is_some, nested, of_call, of_expr, of_operand, of_place, of_stmt, of_stmt_kind, of_type, where_true}
 use Rattle.qs_tree.proofs.Spelled.{spell-Gate, spell-GateCall, spell-Stmt}
-use Rattle.qs_parser.specs.steps.Tokens.{◌>>=◌, Readers, Reads, after_sign, begins_sign, one_less, up_to_brace}
+use Rattle.qs_parser.specs.steps.Tokens.{Reads, begins_sign}
 use Rattle.qs_parser.specs.steps.Knot.{below}
 use Rattle.qs_parser.specs.steps.Globals.{call_in, calls_at, gate_at, gate_params_at, names_at, top_of}
-use Rattle.qs_parser.specs.steps.Statements.{call_at}
 use Rattle.qs_parser.proofs.Featured.{features-Cal, features-Assign, features-Barrier, features-Box, features-Break, features-Continue, features-Declare, features-Defcal, features-DefcalGrammar, features-Delay, features-End, features-For, features-Gate, features-GateCall, features-If, features-Include, features-Init, features-Input, features-Measure, features-Named, features-Output, features-PhysicalQubit, features-Place, features-Qubit, features-Reset, features-Stmt, features-Stretch, features-TypeExpr, features-Update, features-While}
 use Rattle.qs_parser.proofs.TokenPieces.{after_sign_at, begins_sign_at, name_at_name}
 use Rattle.qs_parser.proofs.SoundNested.{map_nested}
-use Rattle.qs_parser.proofs.Complete.{Fits, IsCompleteBelow}
+use Rattle.qs_parser.proofs.Complete.{Fits}
 use Rattle.qs_parser.proofs.CompleteExprParts.{fits_as, fits_both, fits_where}
 use Rattle.qs_parser.proofs.CompleteExprCases.{spells_as, unplaced}
 use Rattle.qs_parser.proofs.CompleteStmtParts.{OperandCase, is_named, is_physical, next, operand_case, place_starts}

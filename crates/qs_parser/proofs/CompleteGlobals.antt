@@ -1,33 +1,27 @@
 -- Includes, qubits, inputs, outputs and gates are read where they are spelled.
-use Rattle.std.proofs.Common.{◌≡◌, ℕ, zero, suc, ◌+◌, ◌≤◌, max, Bool, true, false, ◌&&◌, codes, List, [], ◌∷◌, ◌++◌, length, map, option_map, Option, Some, None, refl, sym, ap, subst, ◌∙◌, append_assoc, arith, inl, inr}
-use Rattle.std.specs.List.{list_all}
+use Rattle.std.proofs.Common.{◌≡◌, ℕ, zero, suc, true, false, codes, List, [], ◌∷◌, ◌++◌, map, option_map, Option, Some, None, refl, ap, ◌∙◌, arith, inl, inr}
 use Rattle.std.proofs.lemmas.Bool.{and_from, and_parts}
 use Rattle.qs_values.specs.Names.{is_name}
-use Rattle.qs_values.specs.declared.span.Span.{Span}
 use Rattle.qs_lexer.specs.declared.token.Token.{Token}
 use Rattle.qs_lexer.specs.declared.token.TokenKind.TheVariants as kind
 use Rattle.qs_tree.specs.declared.expr.Expr.{Expr}
 use Rattle.qs_tree.specs.declared.expr.TypeExpr.{TypeExpr}
-use Rattle.qs_tree.specs.declared.gate.Call.{Call as Called}
 use Rattle.qs_tree.specs.declared.name.Ident.{Ident}
-use Rattle.qs_tree.specs.declared.operand.Operand.{Operand}
-use Rattle.qs_tree.specs.declared.statement.Stmt.{Stmt}
 use Rattle.qs_tree.specs.declared.statement.StmtKind.{StmtKind}
-use Rattle.qs_tree.specs.declared.statement.StmtKind.TheVariants.{Include, DefcalGrammar, Qubit, Input, Output, Gate, GateCall}
-use Rattle.qs_tree.specs.Spelling.{Piece, Quoted, Sign, Word, Spells, if_there, in_braces, in_round, in_square, joined, name, names, piece, sign, spell, spell_stmt, spell_stmt_kind, spell_type, word}
-use Rattle.qs_tree.specs.WellFormed.{Features, all as all_of, are_names, are_params, at_top, block, both, brackets_of, if_in_brackets, in_brackets, is_call, is_some, nested, nothing, of_expr, of_stmt, of_stmt_kind, of_type, where_true}
-use Rattle.qs_tree.proofs.Spelled.{spell-DefcalGrammar, spell-Gate, spell-GateCall, spell-Include, spell-Input, spell-Output, spell-Qubit, spell-Stmt}
-use Rattle.qs_parser.specs.steps.Tokens.{◌>>=◌, Readers, Reads, after_sign, begins_sign, name_at, one_less, up_to_brace}
+use Rattle.qs_tree.specs.declared.statement.StmtKind.TheVariants.{Include, DefcalGrammar, Qubit, Input, Output}
+use Rattle.qs_tree.specs.Spelling.{Piece, Quoted, Sign, Word, Spells, if_there, in_round, in_square, name, names, piece, sign, spell, spell_stmt_kind, spell_type, word}
+use Rattle.qs_tree.specs.WellFormed.{Features, all as all_of, are_names, are_params, at_top, brackets_of, if_in_brackets, in_brackets, is_some, nothing, of_expr, of_stmt_kind, of_type, where_true}
+use Rattle.qs_tree.proofs.Spelled.{spell-DefcalGrammar, spell-Include, spell-Input, spell-Output, spell-Qubit}
+use Rattle.qs_parser.specs.steps.Tokens.{Readers, Reads, after_sign, begins_sign, name_at}
 use Rattle.qs_parser.specs.steps.Knot.{below}
-use Rattle.qs_parser.specs.steps.Globals.{defcalgrammar_at, gate_params_at, ident_at, include_at, input_at, names_at, names_to, output_at, qubit_at, quoted_at, top_of}
-use Rattle.qs_parser.specs.steps.Statements.{bracket_at, stopped, type_at}
-use Rattle.qs_parser.proofs.Featured.{features-DefcalGrammar, features-Gate, features-GateCall, features-Include, features-Input, features-Output, features-Qubit, features-Stmt}
-use Rattle.qs_parser.proofs.TokenPieces.{after_sign_at, begins_sign_at, name_at_name, no_sign_after}
+use Rattle.qs_parser.specs.steps.Globals.{defcalgrammar_at, gate_params_at, ident_at, include_at, input_at, names_at, names_to, output_at, qubit_at, top_of}
+use Rattle.qs_parser.proofs.Featured.{features-DefcalGrammar, features-Include, features-Input, features-Output, features-Qubit}
+use Rattle.qs_parser.proofs.TokenPieces.{after_sign_at, begins_sign_at, name_at_name, no_sign_after, nothing_spelled}
 use Rattle.qs_parser.proofs.Spent.{Spent}
 use Rattle.qs_parser.proofs.Complete.{Fits, IsCompleteBelow}
-use Rattle.qs_parser.proofs.CompleteExprParts.{after_last, complete-commas, fits_as, fits_both, fits_nothing, fits_where}
+use Rattle.qs_parser.proofs.CompleteExprParts.{after_last, complete-commas, fits_as, fits_nothing, fits_where}
 use Rattle.qs_parser.proofs.CompleteExprCases.{spells_as}
-use Rattle.qs_parser.proofs.CompleteStmtParts.{NoCount, NoIndex, complete-bracket_at, complete-stopped, complete-type_at, next, regroup}
+use Rattle.qs_parser.proofs.CompleteStmtParts.{NoCount, complete-bracket_at, complete-stopped, complete-type_at, next, regroup}
 
 -- ---- what a statement at the top is, by its first token
 
@@ -145,10 +139,6 @@ read-output type n d renew left after front rest h f s =
 -- ---- names
 
 -- a name alone
-nothing_spelled : (front : List Token) → Spells [] front → front ≡ []
-nothing_spelled [] s = refl
-nothing_spelled (t ∷ ts) s = absurd s
-
 pub name_alone : (n : Ident) (front rest : List Token) → is_name n.name ≡ true → Spells (name n) front → name_at (front ++ rest) ≡ Some (n, rest)
 name_alone n front rest v s =
     let named = name_at_name n [] front rest v s in

@@ -1,18 +1,17 @@
 -- Why tokens have no tree: each refusal has its cause, and no tokens have two.
-use Rattle.std.proofs.Common.{◌≡◌, ℕ, suc, ◌+◌, ◌≤◌, Bool, true, false, ◌&&◌, ◌||◌, not, cond, codes, List, [], ◌∷◌, ◌++◌, length, Option, Some, None, refl, sym, ap, subst, ◌∙◌, append_assoc, length-append, inl, inr, arith}
-use Rattle.std.specs.Prelude.{◌⊎◌, IsTrue, IsFalse, Result, Ok, Err}
+use Rattle.std.proofs.Common.{◌≡◌, ℕ, ◌≤◌, Bool, true, false, ◌&&◌, ◌||◌, not, cond, codes, List, [], ◌∷◌, ◌++◌, length, Option, Some, None, refl, sym, ap, subst, ◌∙◌, append_assoc, length-append, inl, inr, arith}
+use Rattle.std.specs.Prelude.{◌⊎◌, Result, Ok, Err}
 use Rattle.std.specs.List.{AllByRecursion, flat_map, list_any}
 use Rattle.std.specs.Str.{bytes_eq}
 use Rattle.std.proofs.lemmas.Bool.{and_from, and_parts, cond-false, cond-true, false_from_ne_true}
+use Rattle.std.proofs.lemmas.List.{append-nil}
 use Rattle.std.proofs.lemmas.Option.{cond_some}
 use Rattle.qs_values.specs.declared.span.Span.{Span}
 use Rattle.qs_lexer.specs.declared.token.Token.{Token}
-use Rattle.qs_lexer.specs.declared.token.TokenKind.{TokenKind}
-use Rattle.qs_lexer.specs.declared.token.TokenKind.TheVariants as kind
 use Rattle.qs_tree.specs.declared.source.Source.{Source}
 use Rattle.qs_tree.specs.declared.statement.Stmt.{Stmt}
-use Rattle.qs_tree.specs.Spelling.{IsNumber, Piece, Spells, spell_source, spell_stmt, spell_version}
-use Rattle.qs_tree.specs.WellFormed.{IsSource, IsVersion, IsWellFormed, is_version, limits, may_nest, of_stmt, twice_limits}
+use Rattle.qs_tree.specs.Spelling.{Spells, spell_stmt, spell_version}
+use Rattle.qs_tree.specs.WellFormed.{IsVersion, IsWellFormed, is_version, limits, may_nest, of_stmt, twice_limits}
 use Rattle.qs_parser.specs.declared.refusal.ParseRefusal.{ParseRefusal}
 use Rattle.qs_parser.specs.declared.refusal.ParseRefusal.TheVariants.{NoStatement, TooDeep, Unsupported, VersionUnknown, Memory}
 use Rattle.qs_parser.specs.Language.{BeginsLeftOut, IsBeforeType, IsCause, IsRefusedBy, IsRest, IsTooDeep, IsTreeOf, IsUnsupported, IsVersionUnknown, IsWord, Leaves, ParseIs, first_place, is_left_out, left_out}
@@ -22,28 +21,17 @@ use Rattle.qs_parser.specs.Refusals.{span_of}
 use Rattle.qs_parser.specs.steps.Tokens.{begins_word, has_word, is_word}
 use Rattle.qs_parser.specs.steps.Globals.{statement_at}
 use Rattle.qs_parser.specs.steps.Sources.{is_left_out_word, is_number, refusal_of, statements_at, unknown_version, unsupported, version_at}
-use Rattle.qs_parser.proofs.TokenPieces.{Took, chosen, spells_split, took_then, word_kind, word_shown}
+use Rattle.qs_parser.proofs.TokenPieces.{Took, chosen, spells_split, took_then, word_kind, word_shown, nothing_spelled}
 use Rattle.qs_parser.proofs.SoundParts.{holds_at}
-use Rattle.qs_parser.proofs.SoundTop.{sound-statement_at, sound-statements_at, sound-version_at}
+use Rattle.qs_parser.proofs.SoundTop.{sound-statement_at, sound-statements_at, sound-version_at, number_kind}
 use Rattle.qs_parser.proofs.CompleteStarts.{Starts, starts_no_version, starts_supported, stmt_starts}
-use Rattle.qs_parser.proofs.CompleteTop.{IsCompleteAt, left-is_rest, reads_any, statements_start, tree-once}
+use Rattle.qs_parser.proofs.CompleteTop.{IsCompleteAt, left-is_rest, reads_any, statements_start, tree-once, number_is}
+use Rattle.qs_parser.proofs.CompleteIf.{both_ways, not_true}
 
 -- ---- a tree leaves nothing
 
-no_clash : (b : Bool) → b ≡ true → b ≡ false → ⊥
-no_clash true e f = absurd cc
-no_clash false e f = absurd cc
-
-append_none : (ts : List Token) → ts ++ [] ≡ ts
-append_none [] = refl
-append_none (u ∷ us) = ap (λ (vs : List Token). u ∷ vs) (append_none us)
-
-nothing_spelled : (front : List Token) → Spells [] front → front ≡ []
-nothing_spelled [] s = refl
-nothing_spelled (t ∷ ts) s = absurd s
-
 tree_leaves : (tokens : List Token) (source : Source) → IsTreeOf tokens source → Leaves tokens []
-tree_leaves tokens source t = record { front = tokens; split = sym (append_none tokens); source = source; is = t }
+tree_leaves tokens source t = record { front = tokens; split = sym (append-nil tokens); source = source; is = t }
 
 -- a rest of no tokens has no place, and every refusal has one
 no_place : (tokens : List Token) (refusal : ParseRefusal) → IsCause tokens [] refusal → None ≡ span_of refusal → ⊥
@@ -154,32 +142,10 @@ unsupported_is word (t ∷ u ∷ us) e = from (chosen (is_left_out_word t) (Some
 
 -- ---- the cause of a version
 
-number_is : (k : TokenKind) → IsNumber k → is_number k ≡ true
-number_is (kind.Whole value) h = refl
-number_is (kind.Decimal value) h = refl
-number_is kind.Word h = absurd h
-number_is (kind.Physical number) h = absurd h
-number_is (kind.Time value unit) h = absurd h
-number_is kind.Text h = absurd h
-number_is kind.Sign h = absurd h
-
-is_a_number : (k : TokenKind) → is_number k ≡ true → IsNumber k
-is_a_number (kind.Whole value) e = tt
-is_a_number (kind.Decimal value) e = tt
-is_a_number kind.Word e = absurd cc
-is_a_number (kind.Physical number) e = absurd cc
-is_a_number (kind.Time value unit) e = absurd cc
-is_a_number kind.Text e = absurd cc
-is_a_number kind.Sign e = absurd cc
-
 pub version_found : (tokens : List Token) → IsVersionUnknown tokens → unknown_version tokens ≡ true
 version_found [] v = absurd v
 version_found (t ∷ []) v = absurd v
 version_found (t ∷ number ∷ ts) v = rw (v.0.kind, v.0.text, number_is number.kind v.1, v.2) refl
-
-not_true : (b : Bool) → not b ≡ true → b ≡ false
-not_true true e = absurd cc
-not_true false e = refl
 
 pub version_is : (tokens : List Token) → unknown_version tokens ≡ true → IsVersionUnknown tokens
 version_is [] e = absurd cc
@@ -187,7 +153,7 @@ version_is (t ∷ []) e = absurd cc
 version_is (t ∷ number ∷ ts) e =
     let p = and_parts (is_word (codes "OPENQASM") t && is_number number.kind) (not (is_version number.text)) e in
     let q = and_parts (is_word (codes "OPENQASM") t) (is_number number.kind) p.0 in
-    (word_is (codes "OPENQASM") t q.0, is_a_number number.kind q.1, not_true (is_version number.text) p.1)
+    (word_is (codes "OPENQASM") t q.0, number_kind number.kind q.1, not_true (is_version number.text) p.1)
 
 begins_version : (tokens : List Token) → IsVersionUnknown tokens → begins_word (codes "OPENQASM") tokens ≡ true
 begins_version [] v = absurd v
@@ -198,7 +164,7 @@ begins_version (t ∷ number ∷ ts) v = rw (v.0.kind, v.0.text) refl
 known_version : (text : List ℕ) (front rest : List Token) → is_version text ≡ true → Spells (spell_version (Some text)) front → IsVersionUnknown (front ++ rest) → ⊥
 known_version text [] rest k p v = p
 known_version text (t ∷ []) rest k p v = p.1
-known_version text (t ∷ number ∷ ts) rest k p v = no_clash (is_version text) k (ap is_version (sym p.1.0.0.1) ∙ v.2)
+known_version text (t ∷ number ∷ ts) rest k p v = both_ways (is_version text) k (ap is_version (sym p.1.0.0.1) ∙ v.2)
 
 -- after such a line nothing is left out of the rest
 all_left : (tokens rest : List Token) → IsVersionUnknown tokens → Leaves tokens rest → rest ≡ tokens
@@ -207,7 +173,7 @@ all_left tokens rest v l = from l.source.version l.source.body l.is.follows.vers
     from : (version : Option (List ℕ)) (body : List Stmt) → IsVersion version → AllByRecursion (IsWellFormed limits) body → Spells (spell_version version ++ flat_map spell_stmt body) l.front → rest ≡ tokens
     from None [] w b p = sym (l.split ∙ ap (λ (us : List Token). us ++ rest) (nothing_spelled l.front p))
     from None (s ∷ ss) w b p =
-        absurd (no_clash (begins_word (codes "OPENQASM") tokens) (begins_version tokens v) (ap (begins_word (codes "OPENQASM")) l.split ∙ starts_no_version (l.front ++ rest) (statements_start s ss l.front rest b.0.follows p)))
+        absurd (both_ways (begins_word (codes "OPENQASM") tokens) (begins_version tokens v) (ap (begins_word (codes "OPENQASM")) l.split ∙ starts_no_version (l.front ++ rest) (statements_start s ss l.front rest b.0.follows p)))
     from (Some text) body w b p =
         let two = spells_split (spell_version (Some text)) (flat_map spell_stmt body) l.front p in
         let is : tokens ≡ two.front ++ (two.after ++ rest) = l.split ∙ (ap (λ (us : List Token). us ++ rest) two.is ∙ append_assoc two.front two.after rest) in
@@ -263,7 +229,7 @@ cause_by h tokens rest span true w s e f g = record { is = version_is tokens e; 
 cause_by h tokens rest span false (Some word) s e f g = record { is = unsupported_is word rest f; place = refl }
 cause_by h tokens rest span false None (Some s) e f g = record { is = deep_is rest s g; place = refl }
 cause_by h tokens rest span false None None e f g = record {
-  is = ((λ d. let r = deep_read h rest d in absurd cc), (λ word u. let r = unsupported_found word rest u in absurd cc), (λ v. no_clash (unknown_version tokens) (version_found tokens v) e));
+  is = ((λ d. let r = deep_read h rest d in absurd cc), (λ word u. let r = unsupported_found word rest u in absurd cc), (λ v. both_ways (unknown_version tokens) (version_found tokens v) e));
   place = refl;
 }
 
@@ -303,14 +269,14 @@ by_none span false None None e f g = refl
 no_version_before : (tokens rest : List Token) → Leaves tokens rest → begins_word (codes "OPENQASM") rest ≡ false → unknown_version tokens ≡ false
 no_version_before tokens rest l n = false_from_ne_true (unknown_version tokens) (λ e.
     let v = version_is tokens e in
-    no_clash (begins_word (codes "OPENQASM") tokens) (begins_version tokens v) (ap (begins_word (codes "OPENQASM")) (sym (all_left tokens rest v l)) ∙ n))
+    both_ways (begins_word (codes "OPENQASM") tokens) (begins_version tokens v) (ap (begins_word (codes "OPENQASM")) (sym (all_left tokens rest v l)) ∙ n))
 
 left_out_begins : (word : List ℕ) (ts : List Token) → IsUnsupported word ts → begins_word (codes "OPENQASM") ts ≡ false
 left_out_begins word [] u = refl
 left_out_begins word (t ∷ ts) (inl b) = false_from_ne_true (is_word (codes "OPENQASM") t) (λ e. let w = word_shown (codes "OPENQASM") t e in clash word (sym b.0.text ∙ w.1) b.1)
   where
     clash : (x : List ℕ) → x ≡ codes "OPENQASM" → is_left_out x → ⊥
-    clash x e l = no_clash (list_any (bytes_eq x) left_out) l (ap (λ (y : List ℕ). list_any (bytes_eq y) left_out) e)
+    clash x e l = both_ways (list_any (bytes_eq x) left_out) l (ap (λ (y : List ℕ). list_any (bytes_eq y) left_out) e)
 left_out_begins word (t ∷ ts) (inr b) = begins_other t b.0
   where
     begins_other : (u : Token) → IsBeforeType u → is_word (codes "OPENQASM") u ≡ false
@@ -367,7 +333,7 @@ whole_tree tokens e =
     let v = sound-version_at tokens in
     let s = sound-statements_at (length tokens) (version_at tokens).1 in
     let both : Took (spell_version (version_at tokens).0 ++ flat_map spell_stmt (statements_at (length tokens) (version_at tokens).1).0) tokens (left_after (length tokens) tokens) = took_then v.took s.took in
-    let same : both.front ≡ tokens = sym (both.is ∙ (ap (λ (us : List Token). both.front ++ us) e ∙ append_none both.front)) in
+    let same : both.front ≡ tokens = sym (both.is ∙ (ap (λ (us : List Token). both.front ++ us) e ∙ append-nil both.front)) in
     record { follows = record { version = v.known; body = s.follow }; spelled = subst (Spells (spell_version (version_at tokens).0 ++ flat_map spell_stmt (statements_at (length tokens) (version_at tokens).1).0)) same both.spells }
 
 pub source_of-parses : IsCompleteAt limits.depth limits.operators → IsCompleteAt twice_limits.depth twice_limits.operators → (tokens : List Token) → ParseIs tokens (source_of tokens)

@@ -1,9 +1,9 @@
 -- Which words begin a statement that follows the grammar, and which never do.
-use Rattle.std.proofs.Common.{◌≡◌, ℕ, Bool, true, false, ◌&&◌, ◌||◌, cond, codes, List, [], ◌∷◌, ◌++◌, map, option_map, Option, Some, None, refl, sym, ap, subst, ◌∙◌, append_assoc, inl, inr}
+use Rattle.std.proofs.Common.{◌≡◌, ℕ, Bool, true, false, ◌||◌, cond, codes, List, [], ◌∷◌, ◌++◌, map, option_map, Option, Some, None, refl, sym, ap, subst, ◌∙◌, append_assoc, inl, inr}
 use Rattle.std.specs.Prelude.{◌⊎◌}
 use Rattle.std.specs.List.{list_all, list_any}
 use Rattle.std.specs.Str.{bytes_eq}
-use Rattle.std.proofs.lemmas.Bool.{and_parts, and_right, or_from, or_parts, cond-false}
+use Rattle.std.proofs.lemmas.Bool.{and_parts, and_right, or_from, or_parts, cond-false, false_from_ne_true}
 use Rattle.qs_values.specs.Names.{is_name, is_reserved}
 use Rattle.qs_lexer.specs.declared.token.Token.{Token}
 use Rattle.qs_lexer.specs.declared.token.TokenKind.TheVariants as kind
@@ -15,7 +15,7 @@ use Rattle.qs_tree.specs.declared.expr.TypeWord.{TypeWord}
 use Rattle.qs_tree.specs.declared.expr.TypeWord.TheVariants.{Bit, Int, Uint, Angle, Bool as BoolWord, Duration}
 use Rattle.qs_tree.specs.declared.gate.Call.{Call as Called, Call-F, out-Call, roll-Call, roll-out-Call}
 use Rattle.qs_tree.specs.declared.gate.Modifier.{Modifier, out-Modifier, roll-Modifier, roll-out-Modifier}
-use Rattle.qs_tree.specs.declared.gate.Modifier.TheVariants.{Inv, Pow, Ctrl, NegCtrl, rolls-Inv, rolls-Pow, rolls-Ctrl, rolls-NegCtrl}
+use Rattle.qs_tree.specs.declared.gate.Modifier.TheVariants.{rolls-Inv, rolls-Pow, rolls-Ctrl, rolls-NegCtrl}
 use Rattle.qs_tree.specs.declared.name.Ident.{Ident}
 use Rattle.qs_tree.specs.declared.operand.Place.{Place}
 use Rattle.qs_tree.specs.declared.operand.Operand.{Operand}
@@ -28,31 +28,44 @@ use Rattle.qs_tree.specs.declared.statement.StmtKind.TheVariants.{Include, Defca
 use Rattle.qs_tree.specs.declared.statement.Body.{Body}
 use Rattle.qs_tree.specs.declared.statement.Range.{Range}
 use Rattle.qs_tree.specs.Spelling.{Piece, Shown, Shows, Word, Spells, at_place, if_there, in_round, in_square, joined, name, sign, sign_of_assign, spell, spell_call, spell_modifier, spell_operand, spell_place, spell_stmt, spell_stmt_kind, spell_type, spell_value, with_commas, word, word_if, word_of_type}
-use Rattle.qs_tree.specs.WellFormed.{AtTop, Features, Standing, may_nest, of_call, of_expr, of_place, of_stmt, of_stmt_kind, of_value}
+use Rattle.qs_tree.specs.WellFormed.{AtTop, Features, may_nest, of_call, of_expr, of_place, of_stmt, of_stmt_kind, of_value}
 use Rattle.qs_tree.proofs.Spelled.{spell-Assign, spell-Barrier, spell-Box, spell-Break, spell-Cal, spell-Called, spell-Continue, spell-Ctrl, spell-Declare, spell-Defcal, spell-DefcalGrammar, spell-Delay, spell-End, spell-For, spell-Gate, spell-GateCall, spell-If, spell-Include, spell-Init, spell-Input, spell-Inv, spell-Measure, spell-NegCtrl, spell-Output, spell-Pow, spell-Qubit, spell-Reset, spell-Stmt, spell-Stretch, spell-TypeExpr, spell-Update, spell-While}
 use Rattle.qs_parser.specs.Language.{left_out}
 use Rattle.qs_parser.specs.steps.Tokens.{begins_word, has_word, is_word}
 use Rattle.qs_parser.specs.steps.Sources.{is_left_out_word, unsupported}
 use Rattle.qs_parser.proofs.Featured.{features-Assign, features-Cal, features-Called, features-Defcal, features-DefcalGrammar, features-Gate, features-GateCall, features-Include, features-Input, features-Output, features-Place, features-Qubit, features-Stmt, features-Update}
-use Rattle.qs_parser.proofs.TokenPieces.{same_text}
 use Rattle.qs_parser.proofs.CompleteExprCases.{spells_as, unplaced, placed_empty}
-use Rattle.qs_parser.proofs.CompleteStmtParts.{PlaceStarts, place_starts}
+use Rattle.qs_parser.proofs.CompleteStmtParts.{place_starts}
 use Rattle.qs_parser.proofs.CompleteStmtNames.{not_reserved}
 use Rattle.qs_parser.proofs.CompleteStmtCases.{StmtCase, is_include, is_defcalgrammar, is_qubit, is_input, is_output, is_gate, is_cal, is_defcal, is_init, is_declare, is_stretch, is_gate_call, is_assign, is_update, is_measure, is_reset, is_barrier, is_delay, is_box, is_if, is_while, is_for, is_break, is_continue, is_end, stmt_case_of}
+use Rattle.qs_parser.proofs.CompleteIf.{both_ways}
+use Rattle.qs_parser.proofs.TokenPieces.{same_text}
 
 -- ---- words
 
+-- the words with which no statement begins, and those that begin one that stands at the top alone
+abbrev pub never_words : List (List ℕ)
+never_words = codes "else" ∷ codes "OPENQASM" ∷ left_out
+
+abbrev pub top_words : List (List ℕ)
+top_words = codes "include" ∷ codes "defcalgrammar" ∷ codes "qubit" ∷ codes "input" ∷ codes "output" ∷ codes "gate" ∷ codes "cal" ∷ codes "defcal" ∷ []
+
 -- whether no statement begins with a word
 abbrev pub never_first : List ℕ → Bool
-never_first text = list_any (bytes_eq text) (codes "else" ∷ codes "OPENQASM" ∷ left_out)
+never_first text = list_any (bytes_eq text) never_words
 
 -- whether a word begins a statement that stands at the top alone
 abbrev pub top_first : List ℕ → Bool
-top_first text = list_any (bytes_eq text) (codes "include" ∷ codes "defcalgrammar" ∷ codes "qubit" ∷ codes "input" ∷ codes "output" ∷ codes "gate" ∷ codes "cal" ∷ codes "defcal" ∷ [])
+top_first text = list_any (bytes_eq text) top_words
 
 -- whether after a word a type stands
 abbrev pub before_type : List ℕ → Bool
 before_type text = bytes_eq text (codes "const") || bytes_eq text (codes "input") || bytes_eq text (codes "output")
+
+-- a text that isn't listed is none of those that are
+pub unlisted : (listed : List (List ℕ)) (text other : List ℕ) → list_any (bytes_eq text) listed ≡ false → list_any (bytes_eq other) listed ≡ true → bytes_eq text other ≡ false
+unlisted listed text other n y =
+    false_from_ne_true (bytes_eq text other) (λ e. both_ways (list_any (bytes_eq other) listed) y (ap (λ (x : List ℕ). list_any (bytes_eq x) listed) (sym (same_text text other e)) ∙ n))
 
 -- a name is none of some reserved words
 none_of_reserved : (name : List ℕ) (texts : List (List ℕ)) → is_name name ≡ true → list_all is_reserved texts ≡ true → list_any (bytes_eq name) texts ≡ false
@@ -62,10 +75,10 @@ none_of_reserved name (text ∷ texts) v r =
     rw (not_reserved name text v p.0) (none_of_reserved name texts v p.1)
 
 name_first : (name : List ℕ) → is_name name ≡ true → never_first name ≡ false
-name_first name v = none_of_reserved name (codes "else" ∷ codes "OPENQASM" ∷ left_out) v refl
+name_first name v = none_of_reserved name never_words v refl
 
 name_top : (name : List ℕ) → is_name name ≡ true → top_first name ≡ false
-name_top name v = none_of_reserved name (codes "include" ∷ codes "defcalgrammar" ∷ codes "qubit" ∷ codes "input" ∷ codes "output" ∷ codes "gate" ∷ codes "cal" ∷ codes "defcal" ∷ []) v refl
+name_top name v = none_of_reserved name top_words v refl
 
 name_before_type : (name : List ℕ) → is_name name ≡ true → before_type name ≡ false
 name_before_type name v = rw (not_reserved name (codes "const") v refl, not_reserved name (codes "input") v refl, not_reserved name (codes "output") v refl) refl

@@ -1,12 +1,10 @@
 -- A statement at the top of a source is read where it is spelled, within any limits.
-use Rattle.std.proofs.Common.{◌≡◌, ℕ, suc, ◌≤◌, Bool, true, false, codes, List, [], ◌∷◌, ◌++◌, length, map, Option, Some, None, refl, sym, ap, subst, ◌∙◌, arith, inr}
-use Rattle.std.specs.Str.{bytes_eq}
+use Rattle.std.proofs.Common.{◌≡◌, ℕ, true, false, codes, List, [], ◌∷◌, ◌++◌, Some, None, refl, sym, ap, subst, ◌∙◌, arith, inr}
 use Rattle.qs_lexer.specs.declared.token.Token.{Token}
 use Rattle.qs_lexer.specs.declared.token.TokenKind.TheVariants as kind
 use Rattle.qs_tree.specs.declared.operand.Operand.{Operand}
 use Rattle.qs_tree.specs.declared.statement.Stmt.{Stmt}
 use Rattle.qs_tree.specs.declared.statement.StmtKind.{StmtKind}
-use Rattle.qs_tree.specs.declared.statement.StmtKind.TheVariants.{Init, Declare, Stretch, GateCall, Assign, Update, Measure, Reset, Barrier, Delay, Box, If, While, For, Break, Continue, End}
 use Rattle.qs_tree.specs.Spelling.{Spells, spell_stmt, spell_stmt_kind}
 use Rattle.qs_tree.specs.WellFormed.{Features, IsWellFormed, may_nest, of_operand, of_stmt, of_stmt_kind}
 use Rattle.qs_tree.proofs.Spelled.{spell-Stmt}
@@ -15,19 +13,18 @@ use Rattle.qs_parser.specs.steps.Knot.{below}
 use Rattle.qs_parser.specs.steps.Globals.{statement_at, top_of}
 use Rattle.qs_parser.specs.steps.Statements.{stmt_at}
 use Rattle.qs_parser.proofs.Featured.{features-Assign, features-Barrier, features-Box, features-Break, features-Continue, features-Declare, features-Delay, features-End, features-For, features-GateCall, features-If, features-Init, features-Measure, features-Named, features-PhysicalQubit, features-Reset, features-Stmt, features-Stretch, features-Update, features-While}
-use Rattle.qs_parser.proofs.TokenPieces.{same_text}
 use Rattle.qs_parser.proofs.SoundStanding.{operands_nest, place_nests, type_nests}
 use Rattle.qs_parser.proofs.SoundKnot.{sound-below}
-use Rattle.qs_parser.proofs.Complete.{ClosesStmt, Fits, ReadsUpTo}
+use Rattle.qs_parser.proofs.Complete.{ClosesStmt, Fits}
 use Rattle.qs_parser.proofs.CompleteExprParts.{fits_as}
 use Rattle.qs_parser.proofs.CompleteExprCases.{spells_as, unplaced}
 use Rattle.qs_parser.proofs.CompleteStmtParts.{OperandCase, is_named, is_physical, operand_case}
 use Rattle.qs_parser.proofs.CompleteStmtCases.{StmtCase, is_include, is_defcalgrammar, is_qubit, is_input, is_output, is_gate, is_cal, is_defcal, is_init, is_declare, is_stretch, is_gate_call, is_assign, is_update, is_measure, is_reset, is_barrier, is_delay, is_box, is_if, is_while, is_for, is_break, is_continue, is_end, stmt_case_of}
 use Rattle.qs_parser.proofs.CompleteBegins.{stmt_some}
-use Rattle.qs_parser.proofs.CompleteStmt.{complete-stmt_at}
+use Rattle.qs_parser.proofs.CompleteStmt.{complete-stmt_at, head_same, tail_same}
 use Rattle.qs_parser.proofs.CompleteWeak.{weak-stmt_at}
 use Rattle.qs_parser.proofs.CompleteKnot.{complete-below}
-use Rattle.qs_parser.proofs.CompleteStarts.{Starts, stmt_starts, top_first}
+use Rattle.qs_parser.proofs.CompleteStarts.{stmt_starts, top_first, top_words, unlisted}
 use Rattle.qs_parser.proofs.CompleteTop.{IsCompleteAt, ReadsStatement}
 use Rattle.qs_parser.proofs.CompleteGlobals.{TopRead, read-defcalgrammar, read-include, read-input, read-output, read-qubit}
 use Rattle.qs_parser.proofs.CompleteGates.{read-gate}
@@ -77,12 +74,6 @@ stands _ is_end d renew left after front rest f s = anywhere (nests _ _ features
 
 -- ---- one of the first kind
 
-head_same : (t u : Token) (ts us : List Token) → t ∷ ts ≡ u ∷ us → t ≡ u
-head_same t u ts us e = cc
-
-tail_same : (t u : Token) (ts us : List Token) → t ∷ ts ≡ u ∷ us → ts ≡ us
-tail_same t u ts us e = cc
-
 top_read : (s : Stmt) (d limit after : ℕ) (t : Token) (ts rest : List Token) → t.span ≡ s.span → TopRead s.kind d limit limit after (t ∷ ts) rest → statement_at d limit (t ∷ (ts ++ rest)) ≡ Some (s, rest)
 unfolding statement_at
 top_read s d limit after t ts rest p r =
@@ -95,22 +86,10 @@ top_read s d limit after t ts rest p r =
 
 -- ---- one of the second kind
 
--- a word that begins no statement at the top alone isn't the one that does
-top_other : (text other : List ℕ) → top_first text ≡ false → top_first other ≡ true → bytes_eq text other ≡ false
-top_other text other n y = from (bytes_eq text other) refl
-  where
-    clash : (b : Bool) → b ≡ false → b ≡ true → ⊥
-    clash true e h = absurd cc
-    clash false e h = absurd cc
-
-    from : (b : Bool) → bytes_eq text other ≡ b → bytes_eq text other ≡ false
-    from false e = e
-    from true e = absurd (clash (top_first text) n (ap top_first (same_text text other e) ∙ y))
-
 top_none : (d renew left : ℕ) (text : List ℕ) (rest : List Token) → top_first text ≡ false → top_of d renew left text rest ≡ None
 unfolding top_of
 top_none d renew left text rest n =
-    rw (top_of, top_other text (codes "include") n refl, top_other text (codes "defcalgrammar") n refl, top_other text (codes "qubit") n refl, top_other text (codes "input") n refl, top_other text (codes "output") n refl, top_other text (codes "gate") n refl, top_other text (codes "cal") n refl, top_other text (codes "defcal") n refl) refl
+    rw (top_of, unlisted top_words text (codes "include") n refl, unlisted top_words text (codes "defcalgrammar") n refl, unlisted top_words text (codes "qubit") n refl, unlisted top_words text (codes "input") n refl, unlisted top_words text (codes "output") n refl, unlisted top_words text (codes "gate") n refl, unlisted top_words text (codes "cal") n refl, unlisted top_words text (codes "defcal") n refl) refl
 
 other_read : (d limit : ℕ) (t : Token) (ts : List Token) → t.kind ≡ kind.Word → top_first t.text ≡ false → statement_at d limit (t ∷ ts) ≡ (stmt_at (below d) limit limit (t ∷ ts) >>= λ s. Some (s.0, s.2))
 unfolding statement_at

@@ -16,10 +16,10 @@ use Rattle.qs_parser.proofs.CompleteStmtSimple.{StmtRead}
 use Rattle.qs_parser.proofs.CompleteStmtCases.{stmt_case_of}
 use Rattle.qs_parser.proofs.CompleteStmtChoice.{read-stmt_kind}
 
-head_same : (t u : Token) (ts us : List Token) → t ∷ ts ≡ u ∷ us → t ≡ u
+pub head_same : (t u : Token) (ts us : List Token) → t ∷ ts ≡ u ∷ us → t ≡ u
 head_same t u ts us e = cc
 
-tail_same : (t u : Token) (ts us : List Token) → t ∷ ts ≡ u ∷ us → ts ≡ us
+pub tail_same : (t u : Token) (ts us : List Token) → t ∷ ts ≡ u ∷ us → ts ≡ us
 tail_same t u ts us e = cc
 
 -- a statement by what it is

@@ -1,6 +1,5 @@
 -- Values and calls are read where they are spelled.
-use Rattle.std.proofs.Common.{◌≡◌, ℕ, zero, suc, ◌+◌, ◌≤◌, Bool, true, false, ◌&&◌, codes, List, [], ◌∷◌, ◌++◌, length, map, option_map, Option, Some, None, refl, sym, ap, subst, ◌∙◌, append_assoc, length-append, arith}
-use Rattle.std.specs.Str.{bytes_eq}
+use Rattle.std.proofs.Common.{◌≡◌, ℕ, zero, suc, ◌≤◌, true, codes, List, [], ◌∷◌, ◌++◌, length, map, option_map, Option, Some, None, refl, sym, ap, subst, ◌∙◌, length-append, arith}
 use Rattle.qs_values.specs.Names.{is_name}
 use Rattle.qs_lexer.specs.declared.token.Token.{Token}
 use Rattle.qs_tree.specs.declared.expr.Expr.{Expr}
@@ -21,10 +20,10 @@ use Rattle.qs_tree.specs.declared.statement.Stmt.{Stmt}
 use Rattle.qs_tree.specs.declared.statement.StmtKind.{StmtKind}
 use Rattle.qs_tree.specs.declared.statement.Body.{Body}
 use Rattle.qs_tree.specs.declared.statement.Range.{Range}
-use Rattle.qs_tree.specs.Spelling.{Piece, Sign, Word, Spells, if_there, in_round, joined, name, sign, spell, spell_call, spell_modifier, spell_operand, spell_value, with_commas, word, after_commas as spell_after_commas}
+use Rattle.qs_tree.specs.Spelling.{Piece, Sign, Spells, if_there, in_round, joined, name, sign, spell, spell_call, spell_modifier, spell_operand, spell_value, with_commas, word, after_commas as spell_after_commas}
 use Rattle.qs_tree.specs.WellFormed.{Features, all, both, in_brackets, nothing, of_call, of_expr, of_modifier, of_operand, of_value, where_true}
 use Rattle.qs_tree.proofs.Spelled.{spell-Called, spell-Ctrl, spell-Expression, spell-Inv, spell-Measurement, spell-NegCtrl, spell-Pow}
-use Rattle.qs_parser.specs.steps.Tokens.{◌>>=◌, Readers, after_word, begins_sign, begins_word}
+use Rattle.qs_parser.specs.steps.Tokens.{Readers, after_word, begins_sign}
 use Rattle.qs_parser.specs.steps.Statements.{acted_at, call_at, ctrl_at, is_modifier, modifier_of, modifier_word, modifiers_at, negctrl_at, params_at, pow_at, signed_off, value_at}
 use Rattle.qs_parser.proofs.Featured.{features-Called, features-Ctrl, features-Expression, features-Inv, features-Measurement, features-NegCtrl, features-Pow}
 use Rattle.qs_parser.proofs.TokenPieces.{after_word_at, begins_sign_at, name_at_name, no_word_after, spells_split}

@@ -22,7 +22,7 @@ use Rattle.qs_tree.specs.declared.statement.Stmt.{Stmt}
 use Rattle.qs_tree.specs.declared.statement.StmtKind.{StmtKind}
 use Rattle.qs_tree.specs.declared.statement.Body.{Body}
 use Rattle.qs_tree.specs.declared.statement.Range.{Range}
-use Rattle.qs_tree.specs.Spelling.{Piece, Spells, sign, sign_of_assign, spell_modifier, spell_type, word, word_of_type}
+use Rattle.qs_tree.specs.Spelling.{Piece, Spells, sign, sign_of_assign, spell_modifier, spell_type, word_of_type}
 use Rattle.qs_tree.proofs.Spelled.{spell-Ctrl, spell-Inv, spell-NegCtrl, spell-Pow, spell-TypeExpr}
 use Rattle.qs_parser.specs.steps.Tokens.{Readers, Reads, has_sign}
 use Rattle.qs_parser.specs.steps.Statements.{assign_op, assignment_at, declaration_at, gate_call_at, is_assigned, named_stmt, stmt_of}

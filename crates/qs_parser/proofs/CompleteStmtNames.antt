@@ -1,5 +1,5 @@
 -- Which words begin a statement, and what a word that is no reserved one begins.
-use Rattle.std.proofs.Common.{◌≡◌, ℕ, zero, suc, ◌+◌, ◌≤◌, Bool, true, false, ◌&&◌, ◌||◌, not, codes, List, [], ◌∷◌, ◌++◌, map, Option, Some, None, refl, sym, ap, subst, ◌∙◌, append_assoc, arith}
+use Rattle.std.proofs.Common.{◌≡◌, ℕ, zero, suc, ◌≤◌, Bool, true, false, ◌&&◌, not, codes, List, [], ◌∷◌, ◌++◌, map, None, refl, sym, ap, subst, ◌∙◌, append_assoc, arith}
 use Rattle.std.specs.Str.{bytes_eq, chars}
 use Rattle.std.proofs.lemmas.Bool.{and_parts}
 use Rattle.qs_values.specs.Names.{is_name, is_reserved, is_word as begins_name}
@@ -20,7 +20,7 @@ use Rattle.qs_tree.specs.declared.statement.Stmt.{Stmt}
 use Rattle.qs_tree.specs.declared.statement.StmtKind.{StmtKind}
 use Rattle.qs_tree.specs.declared.statement.Body.{Body}
 use Rattle.qs_tree.specs.declared.statement.Range.{Range}
-use Rattle.qs_tree.specs.Spelling.{Piece, Sign, Word, Qubit, Integer, Fraction, Period, Quoted, Spells, at_place, in_round, in_square, if_there, sign, sign_of_bin, sign_of_un, spell, spell_kind, spell_type, truth_word, with_commas, word, word_of_type}
+use Rattle.qs_tree.specs.Spelling.{Piece, Sign, Word, Qubit, Integer, Fraction, Period, Quoted, Spells, in_round, in_square, sign, sign_of_bin, sign_of_un, spell, spell_kind, spell_type, truth_word, with_commas, word, word_of_type}
 use Rattle.qs_tree.specs.WellFormed.{Features, binds, of_expr, of_kind}
 use Rattle.qs_tree.proofs.Spelled.{spell-Expr, spell-Whole, spell-Decimal, spell-Time, spell-Text, spell-Truth, spell-Name, spell-Index, spell-Physical, spell-Call, spell-Cast, spell-DurationOf, spell-Group, spell-Unary, spell-Binary, spell-Number, spell-TypeExpr}
 use Rattle.qs_parser.specs.steps.Tokens.{begins_word, is_word}
@@ -28,7 +28,7 @@ use Rattle.qs_parser.specs.steps.Expressions.{type_word}
 use Rattle.qs_parser.specs.steps.Statements.{is_modifier}
 use Rattle.qs_parser.proofs.Featured.{features-Expr, features-Name, features-Index, features-Call, features-Binary}
 use Rattle.qs_parser.proofs.TokenPieces.{Split, same_text, spells_split, word_of_piece}
-use Rattle.qs_parser.proofs.CompleteExprCases.{Case, FirstToken, case_of, cons_head, first_token, is_binary, is_call, is_cast, is_decimal, is_duration, is_group, is_index, is_name_alone, is_number, is_physical, is_text, is_time, is_truth, is_unary, is_whole, spells_as, unplaced}
+use Rattle.qs_parser.proofs.CompleteExprCases.{Case, case_of, cons_head, first_token, is_binary, is_call, is_cast, is_decimal, is_duration, is_group, is_index, is_name_alone, is_number, is_physical, is_text, is_time, is_truth, is_unary, is_whole, spells_as, unplaced}
 
 -- ---- names
 

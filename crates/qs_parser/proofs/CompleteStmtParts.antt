@@ -1,6 +1,5 @@
 -- The parts of statements are read where they are spelled.
-use Rattle.std.proofs.Common.{◌≡◌, ℕ, zero, suc, ◌+◌, ◌-◌, ◌≤◌, max, Bool, true, false, not, cond, codes, List, [], ◌∷◌, ◌++◌, map, option_map, Option, Some, None, refl, sym, ap, subst, ◌∙◌, append_assoc, arith, inl, inr}
-use Rattle.std.specs.Str.{bytes_eq}
+use Rattle.std.proofs.Common.{◌≡◌, ℕ, ◌+◌, ◌-◌, ◌≤◌, max, true, false, codes, List, [], ◌∷◌, ◌++◌, map, option_map, Option, Some, None, refl, sym, ap, subst, ◌∙◌, append_assoc, arith, inl, inr}
 use Rattle.qs_values.specs.Names.{is_name}
 use Rattle.qs_values.specs.declared.span.Span.{Span}
 use Rattle.qs_lexer.specs.declared.token.Token.{Token}
@@ -25,18 +24,18 @@ use Rattle.qs_tree.specs.declared.statement.Stmt.{Stmt}
 use Rattle.qs_tree.specs.declared.statement.StmtKind.{StmtKind}
 use Rattle.qs_tree.specs.declared.statement.Body.{Body}
 use Rattle.qs_tree.specs.declared.statement.Range.{Range}
-use Rattle.qs_tree.specs.Spelling.{Piece, Sign, Word, Qubit, Spells, at_place, if_there, in_round, in_square, name, piece, sign, spell, spell_operand, spell_place, spell_type, with_commas, word, word_of_type, after_commas as spell_after_commas}
-use Rattle.qs_tree.specs.WellFormed.{Features, all, if_in_brackets, is_some, nothing, of_expr, of_operand, of_place, of_type}
+use Rattle.qs_tree.specs.Spelling.{Piece, Sign, Word, Qubit, Spells, at_place, if_there, in_round, in_square, name, piece, sign, spell, spell_operand, spell_place, spell_type, with_commas, word_of_type, after_commas as spell_after_commas}
+use Rattle.qs_tree.specs.WellFormed.{all, if_in_brackets, is_some, of_expr, of_operand, of_place, of_type}
 use Rattle.qs_tree.proofs.Spelled.{spell-Named, spell-PhysicalQubit, spell-Place, spell-TypeExpr}
-use Rattle.qs_parser.specs.steps.Tokens.{◌>>=◌, Readers, Reads, after_sign, begins_sign, begins_word, renewed}
+use Rattle.qs_parser.specs.steps.Tokens.{◌>>=◌, Readers, begins_sign, renewed}
 use Rattle.qs_parser.specs.steps.Expressions.{expr_at, type_word, whole_at}
 use Rattle.qs_parser.specs.steps.Statements.{acted_at, bracket_at, count_at, operand_at, operands_at, place_at, stopped, type_at}
 use Rattle.qs_parser.proofs.Featured.{features-Named, features-PhysicalQubit, features-Place}
-use Rattle.qs_parser.proofs.TokenPieces.{Split, begins_sign_at, begins_word_at, name_at_name, no_sign_after, shows_sign, spells_split}
+use Rattle.qs_parser.proofs.TokenPieces.{begins_sign_at, name_at_name, spells_split}
 use Rattle.qs_parser.proofs.Spent.{Spent}
-use Rattle.qs_parser.proofs.Complete.{Closes, ClosesExpr, Fits, IsCompleteBelow}
+use Rattle.qs_parser.proofs.Complete.{ClosesExpr, Fits, IsCompleteBelow}
 use Rattle.qs_parser.proofs.CompleteExprParts.{after_last, close_round, close_square, complete-commas, complete-enclosed, fits_as, fits_nothing, fits_where, most_is}
-use Rattle.qs_parser.proofs.CompleteExprCases.{spells_as, unplaced}
+use Rattle.qs_parser.proofs.CompleteExprCases.{spells_as}
 use Rattle.qs_parser.proofs.CompleteExprPrimary.{complete-type_of}
 
 -- ---- one part after the other

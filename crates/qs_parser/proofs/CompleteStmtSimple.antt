@@ -1,29 +1,25 @@
 -- Statements without a body are read where they are spelled: those that begin with a word of their own.
-use Rattle.std.proofs.Common.{◌≡◌, ℕ, zero, suc, Bool, true, false, ◌&&◌, ◌||◌, codes, List, [], ◌∷◌, ◌++◌, map, option_map, Option, Some, None, refl, sym, ap, subst, ◌∙◌, append_assoc}
+use Rattle.std.proofs.Common.{◌≡◌, ℕ, true, false, codes, List, [], ◌∷◌, ◌++◌, map, option_map, Option, Some, None, refl, ap, ◌∙◌}
 use Rattle.qs_values.specs.Names.{is_name}
 use Rattle.qs_lexer.specs.declared.token.Token.{Token}
 use Rattle.qs_lexer.specs.declared.token.TokenKind.TheVariants as kind
 use Rattle.qs_tree.specs.declared.expr.Expr.{Expr}
-use Rattle.qs_tree.specs.declared.expr.TypeExpr.{TypeExpr}
 use Rattle.qs_tree.specs.declared.name.Ident.{Ident}
 use Rattle.qs_tree.specs.declared.operand.Place.{Place}
 use Rattle.qs_tree.specs.declared.operand.Operand.{Operand}
-use Rattle.qs_tree.specs.declared.operand.Value.{Value}
 use Rattle.qs_tree.specs.declared.statement.StmtKind.{StmtKind}
-use Rattle.qs_tree.specs.declared.statement.StmtKind.TheVariants.{Init, Declare, Stretch, Measure, Reset, Barrier, Delay, Break, Continue, End}
-use Rattle.qs_tree.specs.Spelling.{Piece, Sign, Word, Spells, if_there, in_square, name, sign, spell, spell_operand, spell_place, spell_stmt_kind, spell_type, spell_value, with_commas, word}
-use Rattle.qs_tree.specs.WellFormed.{Features, all, both, if_there as if_there_features, in_brackets, is_some, of_expr, of_operand, of_place, of_stmt_kind, of_type, of_value}
-use Rattle.qs_tree.proofs.Spelled.{spell-Barrier, spell-Break, spell-Continue, spell-Delay, spell-End, spell-Init, spell-Measure, spell-Reset, spell-Stretch}
-use Rattle.qs_parser.specs.steps.Tokens.{◌>>=◌, Readers, Reads, after_sign, begins_sign, name_at}
-use Rattle.qs_parser.specs.steps.Statements.{acted_at, barrier_at, declaration_at, delay_at, init_at, measure_at, operand_at, operands_at, reset_at, stmt_of, stopped, stretch_at, to_at, type_at, value_at}
-use Rattle.qs_parser.specs.steps.Expressions.{enclosed}
-use Rattle.qs_parser.proofs.Featured.{features-Barrier, features-Break, features-Continue, features-Delay, features-End, features-Init, features-Measure, features-Reset, features-Stretch}
+use Rattle.qs_tree.specs.declared.statement.StmtKind.TheVariants.{Stretch, Measure, Reset, Barrier, Delay, Break, Continue, End}
+use Rattle.qs_tree.specs.Spelling.{Piece, Sign, Spells, if_there, in_square, name, sign, spell, spell_operand, spell_place, spell_stmt_kind, with_commas, word}
+use Rattle.qs_tree.specs.WellFormed.{all, both, if_there as if_there_features, in_brackets, is_some, of_expr, of_operand, of_place, of_stmt_kind}
+use Rattle.qs_tree.proofs.Spelled.{spell-Barrier, spell-Break, spell-Continue, spell-Delay, spell-End, spell-Measure, spell-Reset, spell-Stretch}
+use Rattle.qs_parser.specs.steps.Tokens.{Readers, after_sign, begins_sign}
+use Rattle.qs_parser.specs.steps.Statements.{barrier_at, delay_at, measure_at, operands_at, reset_at, stmt_of, stretch_at, to_at}
+use Rattle.qs_parser.proofs.Featured.{features-Barrier, features-Break, features-Continue, features-Delay, features-End, features-Measure, features-Reset, features-Stretch}
 use Rattle.qs_parser.proofs.TokenPieces.{after_sign_at, begins_sign_at, name_at_name, no_sign_after}
 use Rattle.qs_parser.proofs.Complete.{ClosesExpr, Fits, IsCompleteBelow}
-use Rattle.qs_parser.proofs.CompleteExprParts.{after_last, close_semicolon, close_square, closes_at, complete-enclosed, fits_as, fits_both, fits_nothing, fits_where}
+use Rattle.qs_parser.proofs.CompleteExprParts.{close_semicolon, close_square, closes_at, complete-enclosed, fits_as, fits_both, fits_nothing, fits_where}
 use Rattle.qs_parser.proofs.CompleteExprCases.{spells_as}
-use Rattle.qs_parser.proofs.CompleteStmtParts.{NoIndex, ReadsExpr, complete-acted_at, complete-operand_at, complete-operands_at, complete-place_at, complete-stopped, complete-type_at, next, regroup}
-use Rattle.qs_parser.proofs.CompleteStmtCalls.{complete-value_at}
+use Rattle.qs_parser.proofs.CompleteStmtParts.{NoIndex, complete-acted_at, complete-operand_at, complete-operands_at, complete-place_at, complete-stopped, next, regroup}
 
 -- ---- what a statement is, by its first token
 

@@ -1,21 +1,21 @@
 -- A source is read where it is spelled, and no list of whole statements is longer than the one that is read.
-use Rattle.std.proofs.Common.{◌≡◌, ℕ, zero, suc, ◌+◌, ◌≤◌, Bool, true, false, ◌&&◌, cond, codes, List, [], ◌∷◌, ◌++◌, length, Option, Some, None, refl, sym, ap, subst, ◌∙◌, append_assoc, length-append, arith}
+use Rattle.std.proofs.Common.{◌≡◌, ℕ, zero, suc, ◌≤◌, Bool, true, false, codes, List, [], ◌∷◌, ◌++◌, length, Option, Some, None, refl, sym, ap, subst, ◌∙◌, append_assoc, length-append, arith}
 use Rattle.std.specs.List.{AllByRecursion, flat_map}
-use Rattle.std.specs.Str.{bytes_eq}
+use Rattle.std.proofs.lemmas.List.{append-nil}
 use Rattle.qs_lexer.specs.declared.token.Token.{Token}
 use Rattle.qs_lexer.specs.declared.token.TokenKind.{TokenKind}
 use Rattle.qs_lexer.specs.declared.token.TokenKind.TheVariants as kind
 use Rattle.qs_tree.specs.declared.source.Source.{Source}
 use Rattle.qs_tree.specs.declared.statement.Stmt.{Stmt}
-use Rattle.qs_tree.specs.Spelling.{IsNumber, Piece, Spells, Version, piece, sign, spell_source, spell_stmt, spell_version, word}
-use Rattle.qs_tree.specs.WellFormed.{IsSource, IsVersion, IsWellFormed, is_version, limits, may_nest, of_stmt}
+use Rattle.qs_tree.specs.Spelling.{IsNumber, Spells, spell_stmt, spell_version}
+use Rattle.qs_tree.specs.WellFormed.{IsVersion, IsWellFormed, is_version, limits, may_nest, of_stmt}
 use Rattle.qs_parser.specs.Language.{IsRest, IsTreeOf, Leaves}
 use Rattle.qs_parser.specs.Once.{TreeOnce}
 use Rattle.qs_parser.specs.Reading.{left_after}
-use Rattle.qs_parser.specs.steps.Tokens.{after_sign, begins_sign, begins_word, has_word, is_word}
+use Rattle.qs_parser.specs.steps.Tokens.{begins_word}
 use Rattle.qs_parser.specs.steps.Globals.{statement_at}
 use Rattle.qs_parser.specs.steps.Sources.{is_number, statements_at, version_at}
-use Rattle.qs_parser.proofs.TokenPieces.{Split, spells_length, spells_split}
+use Rattle.qs_parser.proofs.TokenPieces.{spells_split, nothing_spelled}
 use Rattle.qs_parser.proofs.SoundTop.{sound-source, sound-statements_at}
 use Rattle.qs_parser.proofs.Complete.{ClosesStmt}
 use Rattle.qs_parser.proofs.CompleteStarts.{Starts, starts_no_else, starts_no_version, stmt_starts}
@@ -55,10 +55,6 @@ reads_any d limit h s front rest w p = record {
 
 -- ---- tokens that are spelled
 
-nothing_spelled : (front : List Token) → Spells [] front → front ≡ []
-nothing_spelled [] s = refl
-nothing_spelled (t ∷ ts) s = absurd s
-
 -- a statement has one token or more
 none_first : (t : Token) (us : List Token) → [] ≡ t ∷ us → ⊥
 none_first t us e = absurd cc
@@ -89,10 +85,6 @@ no_version_first : (ss : List Stmt) (front : List Token) → AllByRecursion (IsW
 no_version_first [] [] w p = refl
 no_version_first [] (t ∷ ts) w p = absurd p
 no_version_first (s ∷ ss) front w p = starts_no_version (front ++ []) (statements_start s ss front [] w.0.follows p)
-
-append_nothing : (ts : List Token) → ts ++ [] ≡ ts
-append_nothing [] = refl
-append_nothing (t ∷ ts) = ap (λ (us : List Token). t ∷ us) (append_nothing ts)
 
 -- the first of some statements, and what spells the others
 record FirstOf (s : Stmt) (ss : List Stmt) (front other : List Token) : Type 0 where
@@ -177,7 +169,7 @@ no_version_at [] e = refl
 no_version_at (t ∷ []) e = refl
 no_version_at (t ∷ number ∷ ts) e = rw e refl
 
-number_is : (k : TokenKind) → IsNumber k → is_number k ≡ true
+pub number_is : (k : TokenKind) → IsNumber k → is_number k ≡ true
 number_is (kind.Whole value) h = refl
 number_is (kind.Decimal value) h = refl
 number_is kind.Word h = absurd h
@@ -204,7 +196,7 @@ reads_version text (t ∷ number ∷ u ∷ []) rest v p =
 -- ---- a source
 
 all_read : IsCompleteAt limits.depth limits.operators → (ss : List Stmt) (front : List Token) (n : ℕ) → length front ≤ n → AllByRecursion (IsWellFormed limits) ss → Spells (flat_map spell_stmt ss) front → statements_at n front ≡ (ss, [])
-all_read h ss front n l w p = ap (statements_at n) (sym (append_nothing front)) ∙ reads_statements h ss n front (omega (arith, l, ap length (append_nothing front))) w p
+all_read h ss front n l w p = ap (statements_at n) (sym (append-nil front)) ∙ reads_statements h ss n front (omega (arith, l, ap length (append-nil front))) w p
 
 -- a source is read whole
 pub record ReadsSource (tokens : List Token) (source : Source) : Type 0 where
@@ -216,7 +208,7 @@ reads_source h tokens source t = from source.version source.body t.follows.versi
   where
     from : (version : Option (List ℕ)) (body : List Stmt) → IsVersion version → AllByRecursion (IsWellFormed limits) body → Spells (spell_version version ++ flat_map spell_stmt body) tokens → ReadsSource tokens (record { version = version; body = body })
     from None body v w p =
-        let none : version_at tokens ≡ (None, tokens) = no_version_at tokens (ap (begins_word (codes "OPENQASM")) (sym (append_nothing tokens)) ∙ no_version_first body tokens w p) in
+        let none : version_at tokens ≡ (None, tokens) = no_version_at tokens (ap (begins_word (codes "OPENQASM")) (sym (append-nil tokens)) ∙ no_version_first body tokens w p) in
         record { version = ap (λ (x : Option (List ℕ) × List Token). x.0) none; statements = ap (λ (x : Option (List ℕ) × List Token). statements_at (length tokens) x.1) none ∙ all_read h body tokens (length tokens) (omega arith) w p }
     from (Some text) body v w p =
         let two = spells_split (spell_version (Some text)) (flat_map spell_stmt body) tokens p in

@@ -171,7 +171,7 @@ sound-param_at b d renew h left ts =
     holds_either (free_at b renew left ts) (λ e. sound-fixed_at b d renew h left ts) (λ p e. holds_some p (holds_at (free_at b renew left ts) p (sound-free_at b d renew h left ts) e))
 
 -- the features of the parameters of a calibration
-abbrev params_features : Option (List Features) → Features
+abbrev pub params_features : Option (List Features) → Features
 params_features None = nothing
 params_features (Some ps) = in_brackets (all_of ps)
 

@@ -92,7 +92,7 @@ pub record TookVersion (ts : List Token) (y : Option (List ℕ) × List Token) :
   pub took : Took (spell_version y.0) ts y.1
   pub known : IsVersion y.0
 
-number_kind : (k : TokenKind) → is_number k ≡ true → IsNumber k
+pub number_kind : (k : TokenKind) → is_number k ≡ true → IsNumber k
 number_kind (kind.Whole value) e = tt
 number_kind (kind.Decimal value) e = tt
 number_kind kind.Word e = absurd cc

@@ -69,6 +69,10 @@ spells_append [] qs (t ∷ ts) us a b = absurd a
 spells_append (p ∷ ps) qs [] us a b = absurd a
 spells_append (p ∷ ps) qs (t ∷ ts) us a b = (a.0, spells_append ps qs ts us a.1 b)
 
+pub nothing_spelled : (ts : List Token) → Spells [] ts → ts ≡ []
+nothing_spelled [] h = refl
+nothing_spelled (t ∷ ts) h = absurd h
+
 -- tokens that two lists of pieces spell
 pub record Split (ps qs : List Piece) (ts : List Token) : Type 0 where
   pub front : List Token
