@@ -39,9 +39,9 @@ use Rattle.qs_parser.proofs.CompleteExprCases.{spells_as}
 use Rattle.qs_parser.proofs.CompleteExpr.{complete-whole_at}
 use Rattle.qs_parser.proofs.CompleteStmtParts.{complete-stopped, next}
 use Rattle.qs_parser.proofs.CompleteStmtSimple.{closes_before}
-use Rattle.qs_parser.proofs.CompleteBegins.{BeginsWord, stmt_begins}
+use Rattle.qs_parser.proofs.CompleteBegins.{never_first, never_words, no_else, stmt_begins, unlisted}
 use Rattle.qs_parser.proofs.CompleteBlocks.{IsCompletePart, complete-to_brace}
-use Rattle.qs_parser.proofs.CompleteStarts.{never_first, stmt_starts, never_words, unlisted}
+use Rattle.qs_parser.proofs.CompleteStarts.{stmt_starts}
 use Rattle.qs_parser.proofs.CompleteStmt.{complete-stmt_at, head_same}
 use Rattle.qs_parser.proofs.CompleteKnot.{complete-below}
 use Rattle.qs_parser.proofs.CompleteGlobals.{TopRead, by_top, fits_inside, fits_top}
@@ -68,7 +68,14 @@ item_case : (x : Item) → ItemCase x
 item_case x = subst ItemCase (roll-out-Item x) (item_layer (out-Item x))
 
 -- the word at which an item begins
-item_begins : (x : Item) → ItemCase x → BeginsWord (of_item x).follows (spell_item x)
+record ItemBegins (x : Item) : Type 0 where
+  text : List ℕ
+  places : List Span
+  more : List Piece
+  is : spell_item x ≡ record { shows = Word text; places = places } ∷ more
+  other : (of_item x).follows ≡ true → bytes_eq text (codes "else") ≡ false
+
+item_begins : (x : Item) → ItemCase x → ItemBegins x
 item_begins _ (is_port span true n) = record { text = codes "extern"; places = span ∷ []; more = word (codes "port") ++ name n ++ sign (codes ";"); is = spell-Port span true n; other = λ e. refl }
 item_begins _ (is_port span false n) = record { text = codes "port"; places = span ∷ []; more = name n ++ sign (codes ";"); is = spell-Port span false n; other = λ e. refl }
 item_begins _ (is_extern_frame span n) = record { text = codes "extern"; places = span ∷ []; more = word (codes "frame") ++ name n ++ sign (codes ";"); is = spell-ExternFrame span n; other = λ e. refl }
@@ -77,7 +84,7 @@ item_begins _ (is_frame span n e) = record { text = codes "frame"; places = span
 item_begins _ (is_return span e) = record { text = codes "return"; places = span ∷ []; more = spell e ++ sign (codes ";"); is = spell-Return span e; other = λ h. refl }
 item_begins _ (is_statement s) =
     let b = stmt_begins s in
-    record { text = b.text; places = b.places; more = b.more; is = spell-Statement s ∙ b.is; other = λ e. b.other (sym (ap (λ (x : Features). x.follows) (features-Statement s)) ∙ e) }
+    record { text = b.text; places = b.places; more = b.more; is = spell-Statement s ∙ b.is; other = λ e. no_else b.text (b.first (sym (ap (λ (x : Features). x.follows) (features-Statement s)) ∙ e)) }
 
 -- an item, by its first token
 record ItemRead (x : Item) (b : Option Readers) (renew left after : ℕ) (front rest : List Token) : Type 0 where

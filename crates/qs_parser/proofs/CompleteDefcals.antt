@@ -44,7 +44,7 @@ use Rattle.qs_parser.proofs.CompleteExpr.{complete-whole_at}
 use Rattle.qs_parser.proofs.CompleteStmtParts.{NoCount, NoIndex, complete-operands_at, complete-type_at, next, operand_no_sign, regroup}
 use Rattle.qs_parser.proofs.CompleteStmtNames.{name_no_type, not_reserved}
 use Rattle.qs_parser.proofs.CompleteKnot.{complete-below}
-use Rattle.qs_parser.proofs.CompleteStarts.{type_begins}
+use Rattle.qs_parser.proofs.CompleteStarts.{type_first_word}
 use Rattle.qs_parser.proofs.CompleteGlobals.{TopRead, by_top, fits_inside, fits_top, name_alone, name_no_sign}
 use Rattle.qs_parser.proofs.CompleteCalibrations.{complete-items_at}
 use Rattle.qs_parser.proofs.SoundCalibrations.{params_features}
@@ -207,7 +207,7 @@ param_read _ (is_fixed e) b d renew left after front rest h f s c =
 -- no parameter begins with a closing bracket
 param_no_bracket : (p : Param) → ParamCase p → (front rest : List Token) → Spells (spell_param p) front → begins_sign (codes ")") (front ++ rest) ≡ false
 param_no_bracket _ (is_free type n) front rest s =
-    let w = type_begins type (name n) front rest (spells_as front (spell-Free type n) s) in
+    let w = type_first_word type (name n) front rest (spells_as front (spell-Free type n) s) in
     ap (begins_sign (codes ")")) w.is ∙ rw (w.is_word) refl
 param_no_bracket _ (is_fixed e) front rest s = no_bracket_first e front rest (spells_as front (spell-Fixed e) s)
 

@@ -20,11 +20,11 @@ use Rattle.qs_parser.proofs.CompleteExprParts.{fits_as}
 use Rattle.qs_parser.proofs.CompleteExprCases.{spells_as, unplaced}
 use Rattle.qs_parser.proofs.CompleteStmtParts.{OperandCase, is_named, is_physical, operand_case}
 use Rattle.qs_parser.proofs.CompleteStmtCases.{StmtCase, is_include, is_defcalgrammar, is_qubit, is_input, is_output, is_gate, is_cal, is_defcal, is_init, is_declare, is_stretch, is_gate_call, is_assign, is_update, is_measure, is_reset, is_barrier, is_delay, is_box, is_if, is_while, is_for, is_break, is_continue, is_end, stmt_case_of}
-use Rattle.qs_parser.proofs.CompleteBegins.{stmt_some}
+use Rattle.qs_parser.proofs.CompleteBegins.{stmt_some, top_first, top_words, unlisted}
 use Rattle.qs_parser.proofs.CompleteStmt.{complete-stmt_at, head_same, tail_same}
 use Rattle.qs_parser.proofs.CompleteWeak.{weak-stmt_at}
 use Rattle.qs_parser.proofs.CompleteKnot.{complete-below}
-use Rattle.qs_parser.proofs.CompleteStarts.{stmt_starts, top_first, top_words, unlisted}
+use Rattle.qs_parser.proofs.CompleteStarts.{stmt_starts}
 use Rattle.qs_parser.proofs.CompleteTop.{IsCompleteAt, ReadsStatement}
 use Rattle.qs_parser.proofs.CompleteGlobals.{TopRead, read-defcalgrammar, read-include, read-input, read-output, read-qubit}
 use Rattle.qs_parser.proofs.CompleteGates.{read-gate}
