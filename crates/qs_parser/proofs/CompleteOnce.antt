@@ -1,11 +1,10 @@
 -- Tokens have one tree or one refusal, and the account of the reader finds which.
-use Rattle.std.proofs.Common.{List}
+use Rattle.std.proofs.Common.{List, length}
 use Rattle.qs_lexer.specs.declared.token.Token.{Token}
 use Rattle.qs_tree.specs.WellFormed.{limits, twice_limits}
 use Rattle.qs_parser.specs.Language.{IsRest, ParseIs}
 use Rattle.qs_parser.specs.Once.{RefusalOnce, TreeOnce}
 use Rattle.qs_parser.specs.Reading.{left_after}
-use Rattle.std.specs.Prelude.{length}
 use Rattle.qs_parser.proofs.CompleteTop.{left-is_rest, tree-once}
 use Rattle.qs_parser.proofs.CompleteRefusals.{refusal-once, source_of, source_of-parses}
 use Rattle.qs_parser.proofs.CompleteStatement.{complete-statement_at}

@@ -311,13 +311,14 @@ refusal-once h tokens refusal other a b =
 
 -- ---- the account of the whole
 
--- what is read of a source: the tree, or why there is none
+-- what is answered by what was read: the tree, or why there is none
+abbrev pub answer_of : List Token → Option (List ℕ) → List Stmt × List Token → Result Source ParseRefusal
+answer_of tokens version (body, []) = Ok (record { version = version; body = body })
+answer_of tokens version (body, t ∷ ts) = Err (refusal_of tokens t (t ∷ ts))
+
+-- what is read of a source
 abbrev pub source_of : List Token → Result Source ParseRefusal
-source_of tokens = by_rest (left_after (length tokens) tokens)
-  where
-    by_rest : List Token → Result Source ParseRefusal
-    by_rest [] = Ok (record { version = (version_at tokens).0; body = (statements_at (length tokens) (version_at tokens).1).0 })
-    by_rest (t ∷ ts) = Err (refusal_of tokens t (t ∷ ts))
+source_of tokens = answer_of tokens (version_at tokens).0 (statements_at (length tokens) (version_at tokens).1)
 
 -- a refusal with its cause is what `parse` answers
 answers_refusal : (tokens : List Token) (refusal : ParseRefusal) → IsRefusedBy tokens refusal → ParseIs tokens (Err refusal)
@@ -337,8 +338,11 @@ whole_tree tokens e =
     record { follows = record { version = v.known; body = s.follow }; spelled = subst (Spells (spell_version (version_at tokens).0 ++ flat_map spell_stmt (statements_at (length tokens) (version_at tokens).1).0)) same both.spells }
 
 pub source_of-parses : IsCompleteAt limits.depth limits.operators → IsCompleteAt twice_limits.depth twice_limits.operators → (tokens : List Token) → ParseIs tokens (source_of tokens)
-source_of-parses h k tokens = from (left_after (length tokens) tokens) refl
+source_of-parses h k tokens = from (statements_at (length tokens) (version_at tokens).1) refl
   where
-    from : (rest : List Token) → left_after (length tokens) tokens ≡ rest → ParseIs tokens (elim rest [ [] ↦ Ok (record { version = (version_at tokens).0; body = (statements_at (length tokens) (version_at tokens).1).0 }) | t ∷ ts ↦ Err (refusal_of tokens t (t ∷ ts)) ])
-    from [] e = let t = whole_tree tokens e in (t, λ other u. tree-once h tokens other _ u t)
-    from (t ∷ ts) e = answers_refusal tokens (refusal_of tokens t (t ∷ ts)) (refused k tokens t ts (subst (IsRest tokens) e (left-is_rest h tokens)))
+    from : (read : List Stmt × List Token) → statements_at (length tokens) (version_at tokens).1 ≡ read → ParseIs tokens (answer_of tokens (version_at tokens).0 read)
+    from (body, []) e =
+        let same : (statements_at (length tokens) (version_at tokens).1).0 ≡ body = ap (λ (x : List Stmt × List Token). x.0) e in
+        let t = subst (λ (ss : List Stmt). IsTreeOf tokens (record { version = (version_at tokens).0; body = ss })) same (whole_tree tokens (ap (λ (x : List Stmt × List Token). x.1) e)) in
+        (t, λ other u. tree-once h tokens other _ u t)
+    from (body, t ∷ ts) e = answers_refusal tokens (refusal_of tokens t (t ∷ ts)) (refused k tokens t ts (subst (IsRest tokens) (ap (λ (x : List Stmt × List Token). x.1) e) (left-is_rest h tokens)))

@@ -72,7 +72,7 @@ statements_start s ss front rest f p =
 
 -- ---- whole statements
 
-no_statement_at : (d limit : ℕ) → statement_at d limit [] ≡ None
+pub no_statement_at : (d limit : ℕ) → statement_at d limit [] ≡ None
 unfolding statement_at
 no_statement_at d limit = refl
 
@@ -115,7 +115,7 @@ reads_more : (n : ℕ) (ts : List Token) (s : Stmt) (us : List Token) (ss : List
 unfolding statements_at
 reads_more n ts s us ss rest e f = rw (statements_at, e, f) refl
 
-reads_none : (n : ℕ) → statements_at n [] ≡ ([], [])
+pub reads_none : (n : ℕ) → statements_at n [] ≡ ([], [])
 unfolding statements_at
 reads_none zero = refl
 reads_none (suc n) = rw (statements_at, no_statement_at limits.depth limits.operators) refl

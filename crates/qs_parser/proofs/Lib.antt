@@ -47,3 +47,4 @@ pub mod CompleteCalibrations
 pub mod CompleteDefcals
 pub mod CompleteStatement
 pub mod CompleteOnce
+pub mod CompleteParse
