@@ -1,4 +1,4 @@
--- Includes, qubits, inputs, outputs and gates are read where they are spelled.
+-- Includes, qubits, inputs and outputs are read where they are spelled, and a gate's names.
 use Rattle.std.proofs.Common.{◌≡◌, ℕ, zero, suc, true, false, codes, List, [], ◌∷◌, ◌++◌, map, option_map, Option, Some, None, refl, ap, ◌∙◌, arith, inl, inr}
 use Rattle.std.proofs.lemmas.Bool.{and_from, and_parts}
 use Rattle.qs_values.specs.Names.{is_name}
@@ -180,15 +180,7 @@ complete-names_at ns left front rest v i s c =
 
 -- ---- the parameters of a gate
 
--- room for one construct
-pub record Room (d : ℕ) : Type 0 where
-  pub deeper : ℕ
-  pub is : d ≡ suc deeper
-
-pub room_for : (f : Features) (d renew left after : ℕ) → Fits (in_brackets f) d renew left after → Room d
-room_for f zero renew left after h = absurd (omega (arith, h.depth))
-room_for f (suc i) renew left after h = record { deeper = i; is = refl }
-
+-- what stands in brackets fits one construct deeper
 pub fits_inside : (f : Features) (i renew left after : ℕ) → Fits (in_brackets f) (suc i) renew left after → Fits f i renew left after
 fits_inside f i renew left after h = record { follows = h.follows; depth = omega (arith, h.depth); spent = h.spent }
 

@@ -1,4 +1,4 @@
--- What a reader of whole sources answers, in as many turns as it takes: what `parse` has to.
+-- A reader that takes statements until none is left, and refuses what then remains, answers what `parse` has to.
 use Rattle.std.proofs.Common.{◌≡◌, ℕ, zero, suc, ◌≤◌, List, [], ◌∷◌, length, Option, Some, None, refl, sym, ap, subst, ◌∙◌, length-append, arith}
 use Rattle.std.specs.Prelude.{Ok, Err}
 use Rattle.qs_lexer.specs.declared.token.Token.{Token}

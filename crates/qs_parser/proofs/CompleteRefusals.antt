@@ -48,9 +48,9 @@ no-refusal-beside-tree tokens source refusal t r = from r.rest r.is.least r.caus
     from [] least c p = no_place tokens refusal c p
     from (u ∷ us) least c p = absurd (omega (arith, least [] (tree_leaves tokens source t)))
 
--- ---- a rest is the only one
+-- ---- tokens have one rest
 
--- two rests of one list that are as long are the same
+-- two ends of one list that are as long as each other are the same
 same_end : (xs ys us vs : List Token) → xs ++ us ≡ ys ++ vs → length us ≡ length vs → us ≡ vs
 same_end [] [] us vs e l = e
 same_end [] (y ∷ ys) us vs e l = absurd (omega (arith, ap length e, l, length-append ys vs))
@@ -166,7 +166,7 @@ known_version text [] rest k p v = p
 known_version text (t ∷ []) rest k p v = p.1
 known_version text (t ∷ number ∷ ts) rest k p v = both_ways (is_version text) k (ap is_version (sym p.1.0.0.1) ∙ v.2)
 
--- after such a line nothing is left out of the rest
+-- where such a line begins the tokens, nothing is read of them
 all_left : (tokens rest : List Token) → IsVersionUnknown tokens → Leaves tokens rest → rest ≡ tokens
 all_left tokens rest v l = from l.source.version l.source.body l.is.follows.version l.is.follows.body l.is.spelled
   where

@@ -139,7 +139,7 @@ reads_next : (n : ℕ) (ts : List Token) (s : Stmt) (us : List Token) → statem
 unfolding statements_at
 reads_next n ts s us e = rw (statements_at, e) refl
 
--- before an `else` no statement stands, so that one that begins with it isn't the rest of some
+-- whole statements are spelled up to here: where an `else` is next, none of them is left
 only_else : (rs : List Stmt) (us other : List Token) → AllByRecursion (IsWellFormed limits) rs → Spells (flat_map spell_stmt rs) us → begins_word (codes "else") (us ++ other) ≡ true → length (us ++ other) ≤ length other
 only_else [] [] other v q f = omega arith
 only_else [] (t ∷ ts) other v q f = absurd q
@@ -151,7 +151,7 @@ most_next s ss m front other w f more false e = omega (arith, ap length (reads_n
 most_next s ss m front other w f more true e =
     omega (arith, ap length (reads_next m (front ++ other) f.read.what f.read.remains f.read.is), rest_within m f.read.remains, f.read.within, only_else ss f.after other w f.spells e)
 
--- as many of the tokens are read as any whole statements at the front have
+-- at least as many tokens are read as any whole statements at the front have
 pub reads_most : IsCompleteAt limits.depth limits.operators → (ss : List Stmt) (n : ℕ) (front other : List Token) → length (front ++ other) ≤ n → AllByRecursion (IsWellFormed limits) ss → Spells (flat_map spell_stmt ss) front → length (statements_at n (front ++ other)).1 ≤ length other
 reads_most h [] n front other l w p =
     let none : front ++ other ≡ other = ap (λ (us : List Token). us ++ other) (nothing_spelled front p) in
