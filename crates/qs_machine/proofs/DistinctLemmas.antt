@@ -1,7 +1,7 @@
 -- Lists in which no two entries are the same, or of one name, and how they grow.
-use Rattle.std.proofs.Common.{◌≡◌, ◌≢◌, ℕ, zero, suc, ◌+◌, ◌<◌, ◌≤◌, List, [], ◌∷◌, ◌++◌, Bool, true, false, ◌||◌, map, length, get_or, refl, ap, sym, ◌∙◌, arith, ⊎_elim, true≢false}
-use Rattle.std.specs.Prelude.{All, AllPairs, bytes_eq, nat_eq, nat_lt}
-use Rattle.std.specs.List.{list_any, list_all}
+use Rattle.std.proofs.Common.{◌≡◌, ◌≢◌, ℕ, List, [], ◌∷◌, ◌++◌, Bool, true, false, ◌||◌, map, length, refl, sym, ◌∙◌, arith, ⊎_elim, true≢false}
+use Rattle.std.specs.Prelude.{All, AllPairs, bytes_eq, nat_eq}
+use Rattle.std.specs.List.{list_any}
 use Rattle.std.proofs.lemmas.Bool.{cases_lt}
 use Rattle.std.proofs.lemmas.List.{get_or_push, get_or_append_left, length_push}
 use Rattle.std.proofs.lemmas.List.Elements.{All-nil, All-cons}

@@ -1,6 +1,6 @@
 -- The members of an object beside the entries of the map that holds them.
 use Rattle.std.specs.Prelude.{⊤}
-use Rattle.std.proofs.Common.{◌≡◌, ◌∙◌, sym, subst, Result, Ok, Err, Option, Some, append_assoc, ℕ, List, [], ◌∷◌, ◌++◌, map, refl, ap, String, Global, string_bytes, string_cmp, nat_cmp, Ordering, Less}
+use Rattle.std.proofs.Common.{◌≡◌, ◌∙◌, sym, subst, Result, Ok, Err, Some, append_assoc, ℕ, List, [], ◌∷◌, ◌++◌, map, refl, ap, String, Global, string_bytes, string_cmp, nat_cmp, Less}
 use Rattle.std.specs.Cmp.Lexicographic.{slice_cmp}
 use Rattle.std.specs.List.{AllByRecursion}
 use Rattle.std.specs.List.Sorted.{IsStrictlySortedBy}

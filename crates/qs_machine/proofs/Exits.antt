@@ -1,8 +1,8 @@
 -- Where a step is refused, all the steps are.
-use Rattle.std.proofs.Common.{◌≡◌, ◌⊎◌, inl, inr, Result, Ok, Err, refl, ap, ◌∙◌, sym, subst}
+use Rattle.std.proofs.Common.{◌≡◌, inl, inr, Result, Ok, Err, ap, ◌∙◌, sym, subst}
 use Rattle.std.specs.Result.{IsErrAnd}
 use Rattle.std.proofs.lemmas.Result.{err_from_is_err_and}
-use Rattle.qs_machine.specs.Steps.{◌>>=◌, result_map, IsUnlessMemory}
+use Rattle.qs_machine.specs.Steps.{◌>>=◌, IsUnlessMemory}
 
 -- a refusal passes by what would have come next
 pub bind_err : {A B E : Type 0} (r : Result A E) (e : E) (next : A → Result B E) → Err e ≡ r → Err e ≡ (r >>= next)

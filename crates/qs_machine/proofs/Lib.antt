@@ -5,3 +5,9 @@ pub mod EntryLemmas
 pub mod TapeLemmas
 pub mod DistinctLemmas
 pub mod PartSteps
+pub mod KeptLemmas
+pub mod PartsKept
+pub mod MachineKept
+pub mod BuiltInKept
+pub mod TapeKept
+pub mod ReadOnce

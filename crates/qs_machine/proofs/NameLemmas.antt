@@ -1,7 +1,7 @@
 -- Names that are found by their bytes, in a set of texts.
-use Rattle.std.proofs.Common.{◌≡◌, ℕ, suc, ◌+◌, ◌<◌, List, [], ◌∷◌, ◌++◌, Bool, true, false, not, cond, ◌||◌, map, length, refl, ap, sym, ◌∙◌, Option, Some, None, String, Global, string_bytes}
+use Rattle.std.proofs.Common.{◌≡◌, ℕ, suc, ◌+◌, List, [], ◌∷◌, ◌++◌, Bool, false, not, cond, ◌||◌, map, length, refl, ap, sym, ◌∙◌, Option, Some, None, String, Global, string_bytes}
 use Rattle.std.specs.Prelude.{nat_lt, position, bytes_eq, string_eq, if◌then◌else◌}
-use Rattle.std.specs.List.{list_any, position_or_len, prefix_len}
+use Rattle.std.specs.List.{list_any, position_or_len}
 use Rattle.std.proofs.lemmas.List.{length_push}
 use Rattle.indexmap.specs.IndexSet.{insert_key}
 

@@ -1,5 +1,5 @@
 -- The parts of a machine, step by step.
-use Rattle.std.proofs.Common.{◌≡◌, ℕ, List, [], map, length, Result, Ok, Err}
+use Rattle.std.proofs.Common.{◌≡◌, ℕ, List, map, length, Result, Ok}
 use Rattle.serde_json.specs.Data.{Data}
 use Rattle.qs_values.specs.declared.tape.FrameStart.{FrameStart}
 use Rattle.qs_machine.specs.declared.machine.CtlKind.{CtlKind}

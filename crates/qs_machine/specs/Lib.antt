@@ -5,3 +5,4 @@ pub mod Values
 pub mod Table
 pub mod Limits
 pub mod Tapes
+pub mod Once

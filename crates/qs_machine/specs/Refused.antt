@@ -1,5 +1,5 @@
 -- The refusals of tables and tapes: their codes, and the words that are told of them. This project's own.
-use Rattle.std.specs.Prelude.{ℕ, List, [], ◌∷◌, codes, decimal, Option, Some, None, option_to_list}
+use Rattle.std.specs.Prelude.{ℕ, List, [], ◌∷◌, codes, decimal, option_to_list}
 use Rattle.qs_machine.specs.declared.refusal.Field.{Field}
 use Rattle.qs_machine.specs.declared.refusal.Field.TheVariants.{Version, Dt, Qubits, Controllers, Ports, Frames, Waveforms, Families, Gap, Budget, Mail, Cal}
 use Rattle.qs_machine.specs.declared.refusal.Part.{Part}

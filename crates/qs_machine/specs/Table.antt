@@ -1,5 +1,5 @@
 -- What a machine table is read as: its machine, or its first fault in the order of the fields. This project's own.
-use Rattle.std.specs.Prelude.{◌≡◌, ◌⊎◌, ℕ, ◌-◌, ◌^◌, List, [], ◌∷◌, ◌++◌, Bool, false, ◌&&◌, not, ◌==◌, length, map, codes, nat_eq, nat_lt, nat_le, Option, Some, None, if◌then◌else◌, option_map, option_and_then, ok_or, is_some, slice_get, slice_index, position, bytes_eq, IsUtf8, IsTrue, Result, Ok, Err}
+use Rattle.std.specs.Prelude.{◌≡◌, ◌⊎◌, ℕ, ◌-◌, ◌^◌, List, [], Bool, false, ◌&&◌, not, ◌==◌, length, map, codes, nat_eq, nat_lt, nat_le, Option, Some, None, if◌then◌else◌, option_and_then, ok_or, is_some, slice_get, slice_index, position, bytes_eq, IsUtf8, IsTrue, Result, Ok, Err}
 use Rattle.std.specs.List.{list_any, list_all}
 use Rattle.std.specs.Option.{option_map_or}
 use Rattle.serde_json.specs.Data.{Data}
@@ -16,7 +16,6 @@ use Rattle.qs_machine.specs.declared.machine.Family.{Family as Family-}
 use Rattle.qs_machine.specs.declared.table.Parts.{Parts}
 use Rattle.qs_machine.specs.declared.refusal.Field.{Field}
 use Rattle.qs_machine.specs.declared.refusal.Field.TheVariants.{Version, Dt, Qubits, Controllers, Ports, Frames, Waveforms, Families, Gap, Budget, Mail, Cal}
-use Rattle.qs_machine.specs.declared.refusal.Part.{Part}
 use Rattle.qs_machine.specs.declared.refusal.Part.TheVariants.{Whole, Entry, Family}
 use Rattle.qs_machine.specs.declared.refusal.MachineRefusal.{MachineRefusal}
 use Rattle.qs_machine.specs.declared.refusal.MachineRefusal.TheVariants.{MachineNotJson, FieldMissing, FieldWrong, NameDoubled, ControllerUnknown, QubitUnknown, FrameWrong, FamilyWrong}

@@ -1,12 +1,11 @@
 -- What a tape is read as, beside the inputs and the qubits that it is for: its lists and values, or its first fault. This project's own.
-use Rattle.std.specs.Prelude.{◌≡◌, ◌⊎◌, ℕ, suc, ◌-◌, ◌^◌, ℤ, pos, negsuc, List, [], ◌∷◌, Bool, not, length, map, codes, decimal, Option, Some, None, option_map, option_and_then, ok_or, unwrap_or, is_some, is_none, position, bytes_eq, ⊤, Result, Ok, Err}
+use Rattle.std.specs.Prelude.{◌≡◌, ◌⊎◌, ℕ, suc, ◌-◌, ◌^◌, ℤ, pos, negsuc, List, [], not, map, decimal, Option, Some, None, option_map, option_and_then, ok_or, unwrap_or, is_none, ⊤, Result, Ok, Err}
 use Rattle.std.specs.List.{range_with_len}
 use Rattle.std.specs.Option.{option_map_or}
 use Rattle.serde_json.specs.Data.{Data}
-use Rattle.serde_json.specs.Find.{get, as_object}
+use Rattle.serde_json.specs.Find.{get}
 use Rattle.qs_values.specs.declared.kind.Kind.{Kind}
 use Rattle.qs_values.specs.declared.kind.Kind.TheVariants.{Bit, Bool as Truth, Bits, Int, Uint, Angle}
-use Rattle.qs_values.specs.declared.kind.Ty.{Ty}
 use Rattle.qs_values.specs.declared.kind.Input.{Input}
 use Rattle.qs_values.specs.declared.tape.Tape.{Tape}
 use Rattle.qs_machine.specs.declared.refusal.TapeField.{TapeField}

@@ -1,5 +1,5 @@
 -- The forms of values in tables and tapes, over what a JSON text is read as. This project's own.
-use Rattle.std.specs.Prelude.{◌≡◌, ℕ, ◌-◌, ◌^◌, ℤ, pos, negsuc, List, [], ◌∷◌, Bool, ◌&&◌, ◌||◌, length, map, nat_eq, nat_le, int_le, Option, Some, None, if◌then◌else◌, option_map, option_and_then, slice_get}
+use Rattle.std.specs.Prelude.{ℕ, ℤ, pos, negsuc, List, [], ◌∷◌, Bool, ◌&&◌, ◌||◌, length, map, nat_eq, nat_le, int_le, Option, Some, None, if◌then◌else◌, option_map, option_and_then, slice_get}
 use Rattle.std.specs.List.{list_all}
 use Rattle.serde_json.specs.Data.{Data, Items, no_items, item, Members, no_members, member}
 use Rattle.serde_json.specs.Find.{as_number, as_str, as_array, as_object, as_u64, as_i64}

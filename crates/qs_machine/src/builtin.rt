@@ -1,5 +1,6 @@
 ghost use Rattle.std.specs.Prelude.{◌≡◌, IfOk};
 ghost use Rattle.qs_machine.specs.BuiltIn.{built_in, calibrations, controllers, families, family_of, flat, frame_on, frames, port_of, ports, waveforms};
+ghost use Rattle.qs_machine.specs.Limits.{IsMachine};
 
 use crate::machine::{CtlKind, Family, Machine, Port, Sample, Wave};
 use qs_values::{FrameStart, List, Memory, Name};
@@ -136,7 +137,8 @@ impl Machine {
     /// its own, and with an acquire port on one controller for all. A tick is 1 ns. `Memory` is out
     /// of memory.
     pub fn builtin(alloc: Global) -> Result<Machine, Memory>
-        ensures { IfOk result (λ machine. machine ≡ built_in) }
+        ensures value { IfOk result (λ machine. machine ≡ built_in) }
+        ensures kept { IfOk result IsMachine }
     {
         Ok(Machine {
             version: 1,

@@ -1,6 +1,50 @@
 /// Changes of the built-in machine's table, and what the reader answers to them: `accepted`, or the
 /// code of the refusal and the words after its name.
 pub const TABLES: &str = r##"-version => 12 version
+version=3 => 13 version
+whole={"version":1,} => 11
+whole={} x => 11
+whole={'version':1} => 11
+gap=010 => 11
+ports=[{"name":"<32*é>","controller":1,"qubits":[0]}] ; frames=[] ; families={} => accepted
+ports=[{"name":"<33*é>","controller":1,"qubits":[0]}] => 13 ports 0
+-qubits => 12 qubits
+-frames => 12 frames
+qubits=1 ; ports=[{"name":"p","controller":1,"qubits":[0]}] ; frames=[] ; families={} => accepted
+qubits=32 ; ports=[{"name":"p","controller":1,"qubits":[0,1,2,3,4,5,6,7,8,9,10,11,12,13,14,15,16,17,18,19,20,21,22,23,24,25,26,27,28,29,30,31]}] ; frames=[] ; families={} => accepted
+qubits=32 ; ports=[{"name":"p","controller":1,"qubits":[31]}] ; frames=[] ; families={} => accepted
+qubits=32 ; ports=[{"name":"p","controller":1,"qubits":[32]}] ; frames=[] ; families={} => 16 ports 0
+controllers=["hub"] ; ports=[] ; frames=[] ; families={} => accepted
+controllers=["hub",<15:"acquire">] ; ports=[{"name":"p","controller":15,"qubits":[0]}] ; frames=[] ; families={} => accepted
+controllers=["hub",<15:"acquire">] ; ports=[{"name":"p","controller":16,"qubits":[0]}] ; frames=[] ; families={} => 15 ports 0
+controllers=["hub",<16:"acquire">] => 13 controllers
+ports=[{"controller":1,"qubits":[0]}] => 12 ports 0
+ports=[{"name":7,"controller":1,"qubits":[0]}] => 13 ports 0
+ports=[{"name":"p","name":"q","controller":1,"qubits":[0]},{"name":"p","controller":1,"qubits":[0]}] ; frames=[] ; families={} => accepted
+ports=[{"name":"p","controller":"1","qubits":[0]}] => 13 ports 0
+ports=[{"name":"p","controller":18446744073709551615,"qubits":[0]}] => 15 ports 0
+ports=[{"name":"p","controller":18446744073709551616,"qubits":[0]}] => 13 ports 0
+ports=[{"name":"p","controller":1,"qubits":0}] => 13 ports 0
+ports=[{"name":"p","controller":1,"qubits":["0"]}] => 13 ports 0
+ports=[{"name":"p","controller":1,"qubits":[0,1,0]}] => 13 ports 0
+frames=[{"name":"f","frequency":5,"phase":0}] => 12 frames 0
+frames=[{"name":7,"port":"d0","frequency":5,"phase":0}] => 13 frames 0
+frames=[{"name":"if","port":"d0","frequency":5,"phase":0}] => 13 frames 0
+frames=[{"name":"<64*f>","port":"d0","frequency":5,"phase":0}] ; families={} => accepted
+frames=[{"name":"<65*f>","port":"d0","frequency":5,"phase":0}] => 13 frames 0
+frames=[{"name":"f","port":"d0","frequency":1099511627776,"phase":0}] => 13 frames 0
+frames=[{"name":"f","port":"d0","frequency":5,"phase":4294967296}] => 13 frames 0
+frames=[{"name":"f","port":"d0","frequency":5,"phase":"0"}] => 13 frames 0
+frames=[{"name":"f","port":"d0","frequency":5,"phase":0},{"name":"g","port":"a2","frequency":5,"phase":0},{"name":"f","port":"a2","frequency":5,"phase":0}] => 14 frames 2
+waveforms=[{"name":7,"samples":[[0,0]]}] => 13 waveforms 0
+waveforms=[{"name":"pi\u0020","samples":[[0,0]]}] => 13 waveforms 0
+waveforms=[{"name":"<64*w>","samples":[[0,0]]}] => accepted
+waveforms=[{"name":"<65*w>","samples":[[0,0]]}] => 13 waveforms 0
+waveforms=[{"name":"w","samples":[[0,-32769]]}] => 13 waveforms 0
+waveforms=[{"name":"w","samples":[[32768,0]]}] => 13 waveforms 0
+families={"a":5,"a":["d0f","d1f","d2f"]} => accepted
+families={"a":["d0f","d1f","d2f"],"a":5} => 13 families a
+mail="4" => 13 mail
 -gap ; mail=0 => 12 gap
 version=2 => 13 version
 +version=2 => 13 version
@@ -236,9 +280,25 @@ ports=[{"name":"d0","controller":1,"qubits":[32]}] => 16 ports 0
 frames=[{}] => 12 frames 0
 whole={"x":[[[[[[[[[[[[[[[[[[[[[[[[[[[[[[[[[[[[[[[[[[[[[[[[[[[[[[[[[[[[[[[[[[[[[[[[[[[[[[[[[[[[[[[[[[[[[[[[[[[[[[[[[[[[[[[[[[[[[[[[[[[[[[[]]]]]]]]]]]]]]]]]]]]]]]]]]]]]]]]]]]]]]]]]]]]]]]]]]]]]]]]]]]]]]]]]]]]]]]]]]]]]]]]]]]]]]]]]]]]]]]]]]]]]]]]]]]]]]]]]]]]]]]]]]]]]]]} => 11"##;
 
-/// The inputs, a tape beside a machine of three qubits, and what the reader answers.
-pub const TAPES: &str =
-    r##"bit1 c,bool1 b,int64 n | {"inputs":{"c":1,"b":0,"n":-9223372036854775808}} => accepted
+/// The inputs, a tape beside a machine of three qubits, and what the reader answers. `<COUNT*TEXT>`
+/// stands for so many copies.
+pub const TAPES: &str = r##"bits64 n | {"inputs":{"n":18446744073709551615}} => accepted
+bits64 n | {"inputs":{"n":18446744073709551616}} => 24 n
+int64 n | {"inputs":{"n":-9223372036854775809}} => 24 n
+int1 n | {"inputs":{"n":0}} => accepted
+int1 n | {"inputs":{"n":-2}} => 24 n
+int4 n | {"inputs":{"n":-8}} => accepted
+int4 n | {"inputs":{"n":7}} => accepted
+bool1 c | {"inputs":{"c":2}} => 24 c
+uint1 n | {"inputs":{"n":2}} => 24 n
+angle1 n | {"inputs":{"n":1}} => accepted
+bit1 n | {"inputs":{"n":1e0}} => 24 n
+bit1 n | {"inputs":{"n":2,"n":1}} => accepted
+ | {"bits":5,"bits":{}} => accepted
+ | {"zz":<126*[><126*]>} => accepted
+ | {"zz":<127*[><127*]>} => 21
+ | {"bits":{"0":"12"}} => 22 bits 0
+bit1 c,bool1 b,int64 n | {"inputs":{"c":1,"b":0,"n":-9223372036854775808}} => accepted
 int64 n | {"inputs":{"n":9223372036854775808}} => 24 n
 int1 n | {"inputs":{"n":-1}} => accepted
 int1 n | {"inputs":{"n":1}} => 24 n

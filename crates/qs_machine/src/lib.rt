@@ -6,9 +6,12 @@ mod builtin;
 #[cfg(test)]
 mod cases;
 mod controllers;
+#[cfg(test)]
+mod examples;
 mod families;
 mod forms;
 mod frames;
+mod laws;
 mod machine;
 mod names;
 mod ports;
@@ -19,6 +22,7 @@ mod tape;
 mod tests;
 mod waveforms;
 
+pub use laws::read_once;
 pub use machine::{CtlKind, Family, Machine, Port, Sample, Wave};
 pub use refusal::{Field, MachineRefusal, Part, TapeField, TapeRefusal};
 pub use tape::tape_from_json;

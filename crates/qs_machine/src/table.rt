@@ -1,6 +1,7 @@
-ghost use Rattle.std.specs.Prelude.{◌≡◌, ◌⊎◌, Err};
+ghost use Rattle.std.specs.Prelude.{◌≡◌, ◌⊎◌, Err, IfOk, map};
 ghost use Rattle.serde_json.specs.View.{view};
 ghost use Rattle.qs_machine.specs.declared.refusal.MachineRefusal.TheVariants.{Memory as OutOfMemory};
+ghost use Rattle.qs_machine.specs.Limits.{AreInByteOrder, IsMachine};
 ghost use Rattle.qs_machine.specs.Steps.{IsUnlessMemory};
 ghost use Rattle.qs_machine.specs.Table.{ReadsTable, cal_of, machine_of, parts_of};
 
@@ -44,7 +45,8 @@ struct Parts {
 
 /// The parts of a machine of so many qubits.
 fn parts_of(alloc: Global, qubits: u8, table: &Value) -> Result<Parts, MachineRefusal>
-    ensures { IsUnlessMemory OutOfMemory (parts_of qubits (view table.now)) result }
+    ensures value { IsUnlessMemory OutOfMemory (parts_of qubits (view table.now)) result }
+    ensures order { IfOk result (λ parts. AreInByteOrder (map (λ f. f.name) parts.families)) }
 {
     let controllers = controllers_of(alloc, table)?;
     let (ports, port_names) = ports_of(alloc, qubits, controllers.len(), table)?;
@@ -69,7 +71,8 @@ fn parts_of(alloc: Global, qubits: u8, table: &Value) -> Result<Parts, MachineRe
 
 /// The machine of a table, by its value.
 fn machine_of(alloc: Global, table: &Value) -> Result<Machine, MachineRefusal>
-    ensures { IsUnlessMemory OutOfMemory (machine_of (view table.now)) result }
+    ensures value { IsUnlessMemory OutOfMemory (machine_of (view table.now)) result }
+    ensures kept { IfOk result IsMachine }
 {
     let version = needed_whole(table, Field::Version, 1, 1)? as u8;
     let dt = needed_whole(table, Field::Dt, 1, 1_000_000)? as u32;
@@ -101,7 +104,8 @@ impl Machine {
     /// last value counts. The machine keeps all forms and limits. Time is linear in the bytes.
     /// `Memory` is out of memory.
     pub fn from_json(alloc: Global, bytes: &[u8]) -> Result<Machine, MachineRefusal>
-        ensures { (result ≡ Err OutOfMemory) ⊎ ReadsTable bytes.now result }
+        ensures value { (result ≡ Err OutOfMemory) ⊎ ReadsTable bytes.now result }
+        ensures kept { IfOk result IsMachine }
     {
         match Value::from_slice(alloc, bytes) {
             Ok(table) if table.is_object() => machine_of(alloc, &table),

@@ -1,8 +1,9 @@
-ghost use Rattle.std.specs.Prelude.{◌≡◌, ◌⊎◌, ◌≤◌, ◌^◌, ◌-◌, ℕ, pos, negsuc, List as PureList, Err, IfOk, [], map, option_map, unsigned_abs};
+ghost use Rattle.std.specs.Prelude.{◌≡◌, ◌⊎◌, ◌<◌, ◌≤◌, ◌^◌, ◌-◌, ℕ, pos, negsuc, List as PureList, Err, IfOk, IfSome, [], map, option_map, unsigned_abs};
 ghost use Rattle.std.specs.List.{list_all};
 ghost use Rattle.std.specs.Option.{option_map_or};
 ghost use Rattle.serde_json.specs.View.{members_view, view};
 ghost use Rattle.qs_machine.specs.declared.refusal.TapeRefusal.TheVariants.{Memory as OutOfMemory};
+ghost use Rattle.qs_machine.specs.Limits.{AreValues, IsTape};
 ghost use Rattle.qs_machine.specs.Steps.{IsUnlessMemory, judged, result_map};
 ghost use Rattle.qs_machine.specs.Tapes.{ReadsTape, found, input_of, inputs_of, judge, list_of, lists_of, number_in, object_at, qubit_keys, tape_of, value_in};
 ghost use Rattle.qs_machine.specs.Values.{bit_of, bits_in, entries_of, is_bit, signed_in};
@@ -180,7 +181,8 @@ fn int_in(value: &Value, width: u8) -> Option<u64>
 
 /// The number of a value of this type: a whole number in the type's range.
 fn value_in(value: &Value, ty: Ty) -> Option<u64>
-    ensures { result ≡ value_in ty.kind ty.width (view value.now) }
+    ensures value { result ≡ value_in ty.kind ty.width (view value.now) }
+    ensures fits { IfSome result (λ n. n < 2 ^ ty.width) }
 {
     match ty.kind {
         Kind::Bit | Kind::Bool => whole_in(value, 0, 1),
@@ -191,7 +193,8 @@ fn value_in(value: &Value, ty: Ty) -> Option<u64>
 
 /// The value of an input.
 fn input_of(alloc: Global, tape: &Value, input: &Input) -> Result<u64, TapeRefusal>
-    ensures { (before : PureList ℕ) → IsUnlessMemory OutOfMemory (input_of (view tape.now) before input.now) result }
+    ensures value { (before : PureList ℕ) → IsUnlessMemory OutOfMemory (input_of (view tape.now) before input.now) result }
+    ensures fits { IfOk result (λ n. n < 2 ^ input.now.ty.width) }
 {
     let name = input.name.as_str();
     if let Some(value) = found(tape, TapeField::Inputs, name) {
@@ -206,7 +209,8 @@ fn input_of(alloc: Global, tape: &Value, input: &Input) -> Result<u64, TapeRefus
 
 /// The values of the inputs, in order of declaration.
 fn inputs_of(alloc: Global, tape: &Value, inputs: &[Input]) -> Result<List<u64>, TapeRefusal>
-    ensures { IsUnlessMemory OutOfMemory (inputs_of (view tape.now) inputs.now) result }
+    ensures value { IsUnlessMemory OutOfMemory (inputs_of (view tape.now) inputs.now) result }
+    ensures fit { IfOk result (AreValues inputs.now) }
 {
     let mut values = List::new(alloc);
     for input in inputs {
@@ -218,7 +222,8 @@ fn inputs_of(alloc: Global, tape: &Value, inputs: &[Input]) -> Result<List<u64>,
 
 /// The tape of a value.
 fn tape_of(alloc: Global, tape: &Value, inputs: &[Input], qubits: u8) -> Result<Tape, TapeRefusal>
-    ensures { IsUnlessMemory OutOfMemory (tape_of inputs.now qubits (view tape.now)) result }
+    ensures value { IsUnlessMemory OutOfMemory (tape_of inputs.now qubits (view tape.now)) result }
+    ensures kept { IfOk result (IsTape inputs.now qubits) }
 {
     let keys = qubit_keys(alloc, qubits)?;
     if let Some(entries) = object_at(tape, TapeField::Bits)? {
@@ -243,7 +248,8 @@ pub fn tape_from_json(
     inputs: &List<Input>,
     qubits: u8,
 ) -> Result<Tape, TapeRefusal>
-    ensures { (result ≡ Err OutOfMemory) ⊎ ReadsTape inputs.now qubits bytes.now result }
+    ensures value { (result ≡ Err OutOfMemory) ⊎ ReadsTape inputs.now qubits bytes.now result }
+    ensures kept { IfOk result (IsTape inputs.now qubits) }
 {
     match Value::from_slice(alloc, bytes) {
         Ok(tape) if tape.is_object() => tape_of(alloc, &tape, inputs.as_slice(), qubits),

@@ -1,4 +1,5 @@
 use crate::cases::{TABLES, TAPES};
+use crate::examples::{BUILT_IN, FIVE_QUBITS, TAPE};
 use crate::{Machine, tape_from_json};
 use qs_values::{Input, Kind, List, Name, Ty};
 use std::alloc::Global;
@@ -167,23 +168,30 @@ fn refuses_tables_by_their_first_fault(rt: HostRuntime) -> Result<(), Fail> {
     Ok(())
 }
 
+/// The machine of a table that is to be accepted.
+fn machine_of(alloc: Global, table: &str) -> Result<Machine, Fail> {
+    match Machine::from_json(alloc, table.as_bytes()) {
+        Ok(machine) => Ok(machine),
+        Err(_) => Err(Fail::from("the table is refused")),
+    }
+}
+
 #[test]
 fn reads_the_built_in_table_and_no_part_of_it(rt: HostRuntime) -> Result<(), Fail> {
     let alloc = rt.alloc();
     let table = table_of(alloc, "")?;
-    let Ok(machine) = Machine::from_json(alloc, table.as_bytes()) else {
-        return Err(Fail::from("the table is refused"));
-    };
     let builtin = Machine::builtin(alloc)?;
-    assert_eq!(rt;
-        format!(in alloc; "{machine:?}")?,
-        format!(in alloc; "{builtin:?}")?
-    );
+    let shown = format!(in alloc; "{builtin:?}")?;
+    for text in [table.as_str(), BUILT_IN] {
+        let machine = machine_of(alloc, text)?;
+        assert_eq!(rt; format!(in alloc; "{machine:?}")?.as_str(), shown.as_str());
+    }
     for end in 0..table.len() {
         let answer = table_answer(alloc, &table.as_bytes()[..end])?;
         assert_eq!(rt; answer.as_str(), "11", "of {end} bytes");
     }
     assert_eq!(rt; table_answer(alloc, b"{\"\xff\":1}")?.as_str(), "11");
+    assert_eq!(rt; table_answer(alloc, b"{\"a\nb\":1}")?.as_str(), "11");
     Ok(())
 }
 
@@ -255,13 +263,34 @@ fn refuses_tapes_by_their_first_fault(rt: HostRuntime) -> Result<(), Fail> {
     let alloc = rt.alloc();
     for line in TAPES.lines() {
         let (inputs, case) = line.split_once(" | ").ok_or("no inputs")?;
-        let (text, wanted) = case.split_once(" => ").ok_or("no answer")?;
+        let (compact, wanted) = case.split_once(" => ").ok_or("no answer")?;
+        let mut text = String::new(alloc);
+        put_expanded(alloc, &mut text, compact)?;
         let answer = match tape_from_json(alloc, text.as_bytes(), &inputs_of(alloc, inputs)?, 3) {
             Ok(_) => String::from_str(alloc, "accepted")?,
             Err(refusal) => told(alloc, refusal.code(), &refusal.words(alloc)?)?,
         };
         assert_eq!(rt; answer.as_str(), wanted, "of {case}");
     }
+    Ok(())
+}
+
+#[test]
+fn reads_the_other_examples(rt: HostRuntime) -> Result<(), Fail> {
+    let alloc = rt.alloc();
+    let machine = machine_of(alloc, FIVE_QUBITS)?;
+    assert_eq!(rt; machine.qubits, 5);
+    assert_eq!(rt; machine.ports.len(), 13);
+    let last = machine.ports.as_slice().last().ok_or("no port")?;
+    assert_eq!(rt; last.name.as_str(), "line");
+    assert_eq!(rt; last.qubits.as_slice(), [0, 1, 2, 3, 4].as_slice());
+    let inputs = inputs_of(alloc, "uint8 t,int8 offset")?;
+    let Ok(tape) = tape_from_json(alloc, TAPE.as_bytes(), &inputs, 3) else {
+        return Err(Fail::from("the tape is refused"));
+    };
+    assert_eq!(rt; tape.inputs.as_slice(), [5, 253].as_slice());
+    let first = tape.bits.as_slice().first().ok_or("no bits")?;
+    assert_eq!(rt; first.as_slice(), [1, 1, 0, 1].as_slice());
     Ok(())
 }
 

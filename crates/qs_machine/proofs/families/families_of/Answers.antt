@@ -1,4 +1,4 @@
-use Rattle.std.proofs.Common.{rules, ◌≡◌, ◌∙◌, [], ◌++◌, map, subst, sym, ap, refl, append-nil, string_bytes, inl, Ok, Err}
+use Rattle.std.proofs.Common.{◌∙◌, [], ◌++◌, map, subst, sym, ap, append-nil, string_bytes, Ok, Err}
 use Rattle.serde_json.specs.View.{view, members_view}
 use Rattle.serde_json.specs.Find.{get}
 use Rattle.qs_machine.specs.declared.refusal.MachineRefusal.TheVariants.{Memory as OutOfMemory}

@@ -1,6 +1,5 @@
-use Rattle.std.proofs.Common.{rules, ◌≡◌, ◌<◌, ◌∙◌, ap, inl, arith, Ok, Err, map, get_or, List, ℕ, []}
+use Rattle.std.proofs.Common.{◌∙◌, ap, inl, Err, map, get_or, []}
 use Rattle.std.specs.Prelude.{ok_or}
-use Rattle.std.proofs.lemmas.Grind.{common_steps}
 use Rattle.qs_machine.specs.declared.refusal.MachineRefusal.TheVariants.{FamilyWrong}
 use Rattle.qs_machine.specs.Table.{member_of, reaches_alone, place_of}
 use Rattle.qs_machine.specs.Values.{passing}

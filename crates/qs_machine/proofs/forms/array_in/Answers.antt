@@ -1,7 +1,7 @@
-use Rattle.std.proofs.Common.{rules, ◌≡◌, ap, sym, ◌∙◌, Some, refl, List, [], ◌∷◌, map}
+use Rattle.std.proofs.Common.{◌≡◌, ap, sym, refl, List, [], ◌∷◌, map}
 use Rattle.serde_json.specs.Data.{Data}
-use Rattle.serde_json.specs.View.{view, items_of, items_view}
-use Rattle.qs_machine.specs.Values.{values_of, array_in}
+use Rattle.serde_json.specs.View.{view, items_of}
+use Rattle.qs_machine.specs.Values.{values_of}
 use Rattle.std.specs.Option.{option_map}
 use Rattle.qs_machine.proofs.forms.array_in.Goals as goal
 

@@ -1,4 +1,3 @@
-use Rattle.std.proofs.Common.{rules, ◌≡◌}
 use Rattle.std.proofs.lemmas.Result.{err_from_is_err_and}
 use Rattle.qs_machine.proofs.Exits.{bind_err}
 use Rattle.qs_machine.proofs.forms.needed_whole.Goals as goal

@@ -1,4 +1,4 @@
-use Rattle.std.proofs.Common.{rules, Ok, subst}
+use Rattle.std.proofs.Common.{Ok, subst}
 use Rattle.serde_json.specs.View.{view}
 use Rattle.qs_machine.specs.declared.refusal.MachineRefusal.TheVariants.{Memory as OutOfMemory}
 use Rattle.qs_machine.specs.Steps.{IsUnlessMemory}

@@ -1,4 +1,4 @@
-use Rattle.std.proofs.Common.{rules, ◌≡◌, ◌∙◌, ap, subst, map, length, Ok, Err, refl}
+use Rattle.std.proofs.Common.{◌∙◌, ap, subst, map, length, Err, refl}
 use Rattle.serde_json.specs.View.{view}
 use Rattle.qs_machine.specs.declared.refusal.MachineRefusal.TheVariants.{Memory as OutOfMemory}
 use Rattle.qs_machine.specs.Steps.{IsUnlessMemory}
@@ -7,8 +7,8 @@ use Rattle.qs_machine.proofs.Exits.{left_unless, bind_unless, through}
 use Rattle.qs_machine.proofs.PartSteps.{all_parts, from_families, from_waveforms, from_frames, at_ports, at_frames, at_waveforms, at_families}
 use Rattle.qs_machine.proofs.table.parts_of.Goals as goal
 
-pub returns-in_err-ports : goal.returns-in_err-ports
-returns-in_err-ports c =
+pub returns-in_err-ports-clause-value : goal.returns-in_err-ports-clause-value
+returns-in_err-ports-clause-value c =
     let q = c.args.qubits in
     let d = view c.args.table.now in
     let cs = c.in_ok-controllers.controllers in
@@ -17,8 +17,8 @@ returns-in_err-ports c =
     left_unless OutOfMemory _ e _ c.from_residual-in_err-ports.ensures.1
     (at_ports q d cs (Err e) c.in_ok-controllers.ensures.value (bind_unless OutOfMemory (ports_of q (length cs) d) e (from_frames q d cs) refused))
 
-pub returns-in_err-frames : goal.returns-in_err-frames
-returns-in_err-frames c =
+pub returns-in_err-frames-clause-value : goal.returns-in_err-frames-clause-value
+returns-in_err-frames-clause-value c =
     let q = c.args.qubits in
     let d = view c.args.table.now in
     let cs = c.in_ok-controllers.controllers in
@@ -29,8 +29,8 @@ returns-in_err-frames c =
     left_unless OutOfMemory _ e _ c.from_residual-in_err-frames.ensures.1
     (at_frames q d cs ps (Err e) c.in_ok-controllers.ensures.value ports (bind_unless OutOfMemory (frames_of (map (λ p. p.name) ps) d) e (from_waveforms q d cs ps) refused))
 
-pub returns-in_err-waveforms : goal.returns-in_err-waveforms
-returns-in_err-waveforms c =
+pub returns-in_err-waveforms-clause-value : goal.returns-in_err-waveforms-clause-value
+returns-in_err-waveforms-clause-value c =
     let q = c.args.qubits in
     let d = view c.args.table.now in
     let cs = c.in_ok-controllers.controllers in
@@ -42,8 +42,8 @@ returns-in_err-waveforms c =
     left_unless OutOfMemory _ e _ c.from_residual-in_err-waveforms.ensures.1
     (at_waveforms q d cs ps fs (Err e) c.in_ok-controllers.ensures.value ports frames (bind_unless OutOfMemory (waveforms_of d) e (from_families q d cs ps fs) c.in_err-waveforms.ensures))
 
-pub returns-in_err-families : goal.returns-in_err-families
-returns-in_err-families c =
+pub returns-in_err-families-clause-value : goal.returns-in_err-families-clause-value
+returns-in_err-families-clause-value c =
     let q = c.args.qubits in
     let d = view c.args.table.now in
     let cs = c.in_ok-controllers.controllers in
@@ -58,8 +58,8 @@ returns-in_err-families c =
     left_unless OutOfMemory _ e _ c.from_residual-in_err-families.ensures.1
     (at_families q d cs ps fs ws (Err e) c.in_ok-controllers.ensures.value ports frames c.in_ok-waveforms.ensures (bind_unless OutOfMemory (families_of q ps fs d) e (all_parts q d cs ps fs ws) refused))
 
-pub returns : goal.returns
-returns c =
+pub returns-clause-value : goal.returns-clause-value
+returns-clause-value c =
     let q = c.args.qubits in
     let d = view c.args.table.now in
     let cs = c.in_ok-controllers.controllers in

@@ -1,4 +1,4 @@
-use Rattle.std.proofs.Common.{rules, ◌≡◌, ◌∙◌, ap, sym, subst, map, inl, Ok, Err}
+use Rattle.std.proofs.Common.{◌∙◌, ap, sym, subst, map, Ok, Err}
 use Rattle.serde_json.specs.View.{view}
 use Rattle.qs_machine.specs.declared.refusal.TapeRefusal.TheVariants.{Memory as OutOfMemory}
 use Rattle.qs_machine.specs.Steps.{judged, IsUnlessMemory}

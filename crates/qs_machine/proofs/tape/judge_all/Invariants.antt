@@ -1,5 +1,4 @@
-use Rattle.std.proofs.Common.{◌≡◌, ℕ, map}
-use Rattle.serde_json.specs.View.{view}
+use Rattle.std.proofs.Common.{◌≡◌, map}
 use Rattle.qs_machine.specs.Steps.{judged}
 use Rattle.qs_machine.specs.Tapes.{judge}
 use Rattle.qs_machine.proofs.EntryLemmas.{seen}

@@ -1,4 +1,4 @@
-use Rattle.std.proofs.Common.{rules, ◌≡◌, ◌∙◌, ◌++◌, ◌∷◌, [], map, ap, sym}
+use Rattle.std.proofs.Common.{◌∙◌, ◌++◌, ◌∷◌, [], map, ap, sym}
 use Rattle.std.specs.Prelude.{decimal}
 use Rattle.serde_json.specs.View.{view}
 use Rattle.qs_machine.specs.Tapes.{list_of, qubit_keys}

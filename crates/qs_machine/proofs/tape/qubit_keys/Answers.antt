@@ -1,7 +1,6 @@
-use Rattle.std.proofs.Common.{rules, ◌≡◌, ◌∙◌, ◌++◌, ◌∷◌, [], ap, sym, arith}
+use Rattle.std.proofs.Common.{◌∙◌, ◌++◌, ◌∷◌, [], ap, sym, arith}
 use Rattle.std.specs.Prelude.{decimal}
 use Rattle.qs_machine.specs.Table.{is_among}
-use Rattle.qs_machine.specs.Tapes.{qubit_keys}
 use Rattle.qs_machine.proofs.TapeLemmas.{fresh_key, qubit_keys_more}
 use Rattle.qs_machine.proofs.tape.qubit_keys.Goals as goal
 

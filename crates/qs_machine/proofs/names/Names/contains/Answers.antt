@@ -1,4 +1,4 @@
-use Rattle.std.proofs.Common.{rules, sym, ◌∙◌, string_bytes}
+use Rattle.std.proofs.Common.{sym, ◌∙◌, string_bytes}
 use Rattle.std.specs.Str.{bytes_eq}
 use Rattle.qs_machine.proofs.NameLemmas.{list_any-map}
 use Rattle.qs_machine.proofs.names.Names.contains.Goals as goal

@@ -1,7 +1,7 @@
-use Rattle.std.proofs.Common.{rules, sym, ◌∙◌, ap, string_bytes}
+use Rattle.std.proofs.Common.{rules, ◌∙◌, ap, string_bytes}
 use Rattle.std.specs.List.{list_any}
 use Rattle.std.specs.Str.{bytes_eq}
-use Rattle.std.proofs.Common.{map, ◌++◌, ◌∷◌, []}
+use Rattle.std.proofs.Common.{map}
 use Rattle.qs_machine.proofs.NameLemmas.{pushed}
 use Rattle.qs_machine.proofs.names.Names.push.Goals as goal
 
