@@ -1,5 +1,6 @@
 pub mod PickLemmas
-pub mod SweepLemmas
 pub mod StartLemmas
+pub mod SweepLemmas
+pub mod StepLemmas
 pub mod OverLemmas
 pub mod ExampleLemmas

@@ -1,11 +1,11 @@
 -- What a pick does to a core, and what it keeps.
-use Rattle.std.proofs.Common.{◌≡◌, ℕ, ◌+◌, ◌<◌, ◌≤◌, ◌^◌, List, length, refl, ap, arith, sym, ◌∙◌, subst, inl, inr, get_or, zero, suc, add-one}
+use Rattle.std.proofs.Common.{◌≡◌, ℕ, ◌+◌, ◌<◌, List, length, refl, ap, arith, sym, ◌∙◌, subst, inl, inr, get_or, zero, suc, add-one}
 use Rattle.std.specs.Prelude.{Some, slice_get, slice_set, ◌⊎◌}
 use Rattle.std.proofs.lemmas.Bool.{cases_eq}
 use Rattle.std.proofs.lemmas.List.{get_or-set_other, get_or-set_same, length-set, set-get_or}
 use Rattle.std.proofs.lemmas.List.FromFn.{get_or-map-range_with_len, length-map-range_with_len}
 use Rattle.std.proofs.lemmas.List.Sums.{sum-map, sum_by-set}
-use Rattle.std.proofs.lemmas.Option.{get_or_from_slice_get, slice_get-get_or, slice_get_cases, slice_get_read, slice_get_within}
+use Rattle.std.proofs.lemmas.Option.{get_or_from_slice_get, slice_get-get_or, slice_get_cases, slice_get_within}
 use Rattle.qs_values.specs.declared.tape.Tape.{Tape}
 use Rattle.plan_tree.specs.declared.plan.Plan.{Plan}
 use Rattle.plan_tree.specs.declared.part.Part.{Part}
@@ -13,14 +13,14 @@ use Rattle.plan_tree.specs.Acts.{planned_acts}
 use Rattle.plan_tree.specs.Parts.{part_of, parts_of}
 use Rattle.controller_machine.specs.declared.ctl.Want.{Want}
 use Rattle.controller_machine.specs.declared.ctl.Want.TheVariants.{Go, Ended as WantsNothing}
-use Rattle.controller_machine.specs.Ctl.{after_act, entries_next, state_after, want_of}
+use Rattle.controller_machine.specs.Ctl.{after_act, state_after, want_of}
 use Rattle.controller_machine.specs.Last.{Follows}
-use Rattle.controller_machine.specs.Laws.{ActsAreFew, ControllersFollow}
+use Rattle.controller_machine.specs.Laws.{ControllersFollow}
 use Rattle.controller_core.specs.declared.picks.Stepped.{Stepped}
 use Rattle.controller_core.specs.declared.picks.Stepped.TheVariants.{Stepped as Did, Ended}
 use Rattle.controller_core.specs.declared.picks.Controller.{Controller}
-use Rattle.controller_core.specs.Core.{CoreState, IsLive, with_next_act, acts_made, core_of, no_mail, one_if_stepped, pick, pick_answer}
-use Rattle.controller_core.specs.Reached.{HasMade, IsReached}
+use Rattle.controller_core.specs.Core.{CoreState, IsLive, with_next_act, acts_made, one_if_stepped, pick, pick_answer}
+use Rattle.controller_core.specs.Reached.{HasMade, FollowsPlan}
 
 -- what stands at a place after a write
 written : {X : Type 0} (xs : List X) (k j : ℕ) (y z : X) → slice_get (slice_set xs k y) j ≡ Some z → ((j ≡ k) × (z ≡ y)) ⊎ (slice_get xs j ≡ Some z)
@@ -33,7 +33,7 @@ written xs k j y z here =
     ]
 
 -- a write of what stands there
-set-same : {X : Type 0} (xs : List X) (k : ℕ) (x : X) → slice_get xs k ≡ Some x → slice_set xs k x ≡ xs
+pub set-same : {X : Type 0} (xs : List X) (k : ℕ) (x : X) → slice_get xs k ≡ Some x → slice_set xs k x ≡ xs
 set-same xs k x h = ap (slice_set xs k) (sym (get_or_from_slice_get xs k x x h)) ∙ set-get_or xs k x
 
 want-cases : (w : Want) → (w ≡ WantsNothing) ⊎ (w ≡ Go)
@@ -79,6 +79,13 @@ pick-tape core k = elim (pick-cases core k) [ inl r ↦ ap (λ c. c.tape) r.same
 pub pick-mail : (core : CoreState) (k : ℕ) → (pick core k).mail ≡ core.mail
 pick-mail core k = elim (pick-cases core k) [ inl r ↦ ap (λ c. c.mail) r.same | inr a ↦ ap (λ c. c.mail) a.later ]
 
+-- It keeps how many controllers there are.
+pub pick-count : (core : CoreState) (k : ℕ) → length (pick core k).controllers ≡ length core.controllers
+pick-count core k = elim (pick-cases core k) [
+  | inl r ↦ ap (λ c. length c.controllers) r.same
+  | inr a ↦ ap (λ c. length c.controllers) a.later ∙ length-set core.controllers k (with_next_act a.before)
+]
+
 -- A pick that steps counts its act.
 pub pick-made : (core : CoreState) (k : ℕ) → acts_made (pick core k) ≡ acts_made core + one_if_stepped (pick_answer core k)
 pick-made core k = elim (pick-cases core k) [
@@ -108,7 +115,7 @@ ended-wants core k c here ended = elim (want-cases (want_of c.ctl)) [
   | inr go ↦ absurd (let did : pick_answer core k ≡ Did = rw (here, go) refl in cc)
 ]
 
--- ---- what is reached
+-- ---- cores that follow their plan
 
 before-last : (plan : Plan) (tape : Tape) (k : ℕ) (c : Controller) → HasMade plan tape k c → want_of c.ctl ≡ Go → c.acts < length (planned_acts plan tape k)
 before-last plan tape k c made go = elim (cases_eq c.acts (length (planned_acts plan tape k))) [
@@ -136,25 +143,28 @@ made-act follow plan tape k c made go =
       follows = subst (Follows plan tape k (c.acts + 1)) (sym (next-state plan tape k c made)) (follow plan tape k (c.acts + 1) (omega arith));
     }
 
-acted-reached : ControllersFollow → (core : CoreState) (k : ℕ) → IsReached core → (a : Acts core k) → IsReached (with_controller core k (with_next_act a.before))
-acted-reached follow core k r a = record {
-  sound = r.sound;
-  fits = r.fits;
-  some_mail = r.some_mail;
-  few_mail = r.few_mail;
+acted-follows : ControllersFollow → (core : CoreState) (k : ℕ) → FollowsPlan core → (a : Acts core k) → FollowsPlan (with_controller core k (with_next_act a.before))
+acted-follows follow core k r a = record {
+  bounds = record {
+    some = r.bounds.some;
+    few = r.bounds.few;
+    weight = r.bounds.weight;
+    some_mail = r.bounds.some_mail;
+    few_mail = r.bounds.few_mail;
+    controllers = length-set core.controllers k _ ∙ r.bounds.controllers;
+  };
   mailboxes = r.mailboxes;
-  controllers = length-set core.controllers k _ ∙ r.controllers;
   made = λ j c here. elim (written core.controllers k j _ c here) [
     | inl p ↦ rw (p.0, p.1) (made-act follow core.plan core.tape k a.before (r.made k a.before a.here) a.go)
     | inr other ↦ r.made j c other
   ];
 }
 
--- A pick leads from a reached state to a reached state.
-pub pick-reached : ControllersFollow → (core : CoreState) (k : ℕ) → IsReached core → IsReached (pick core k)
-pick-reached follow core k r = elim (pick-cases core k) [
-  | inl rests ↦ subst IsReached (sym rests.same) r
-  | inr a ↦ subst IsReached (sym a.later) (acted-reached follow core k r a)
+-- After a pick a core follows its plan still.
+pub pick-follows : ControllersFollow → (core : CoreState) (k : ℕ) → FollowsPlan core → FollowsPlan (pick core k)
+pick-follows follow core k r = elim (pick-cases core k) [
+  | inl rests ↦ subst FollowsPlan (sym rests.same) r
+  | inr a ↦ subst FollowsPlan (sym a.later) (acted-follows follow core k r a)
 ]
 
 -- whether one of the first n controllers steps
@@ -180,72 +190,3 @@ parts-long plan parts same = ap length same ∙ length-map-range_with_len (part_
 -- The part that was read at a controller's number is its part.
 pub part-read : (plan : Plan) (parts : List Part) (k : ℕ) (part : Part) → parts ≡ parts_of plan → k < plan.controllers → part ≡ get_or parts k part → part ≡ part_of plan k
 part-read plan parts k part same within read = read ∙ ap (λ ps. get_or ps k part) same ∙ get_or-map-range_with_len (part_of plan) 0 plan.controllers k k part within (omega arith)
-
--- What is seen inside a core is the core.
-pub seen-reached : (seen core : CoreState) → seen ≡ core → IsReached seen → IsReached core
-seen-reached seen core is r = subst IsReached is r
-
--- What the controller that was read may count on.
-pub record MayPick (core : CoreState) (k : ℕ) (part : Part) (c : Controller) : Type 0 where
-  pub here : slice_get core.controllers k ≡ Some c
-  pub part_same : part ≡ c.ctl.part
-  pub room : entries_next c.ctl ≤ c.ctl.room
-  pub few : c.acts < 2 ^ 32
-
-pub pick-may : ActsAreFew → (seen core : CoreState) (k : ℕ) (parts : List Part) (part : Part) (c : Controller) → seen ≡ core → IsReached seen → parts ≡ parts_of core.plan → k < core.plan.controllers →
-    part ≡ get_or parts k part → c ≡ get_or seen.controllers k c → MayPick core k part c
-pick-may few seen core k parts part c is r same within part_is read =
-    let reached = seen-reached seen core is r in
-    let here = slice_get_read core.controllers core.plan.controllers k c (sym reached.controllers) within (read ∙ ap (λ s. get_or s.controllers k c) is) in
-    let made = reached.made k c here in
-    record {
-      here = here;
-      part_same = part-read core.plan parts k part same within part_is ∙ sym made.follows.part;
-      room = made.follows.room;
-      few = omega (arith, made.within, few core.plan core.tape k, reached.sound.weight);
-    }
-
--- the core in which a controller stands in place of the one that was seen
-seen-with : (plan : Plan) (tape : Tape) (mail : ℕ) (items : List Controller) (core : CoreState) (k : ℕ) (new : Controller) → core_of plan tape mail items ≡ core → core_of plan tape mail (slice_set items k new) ≡ with_controller core k new
-seen-with plan tape mail items core k new is =
-    ap (λ n. record (core_of plan tape mail (slice_set items k new)) { mailboxes = no_mail n }) (length-set items k new) ∙ ap (λ c. with_controller c k new) is
-
-goes-unless : (w : Want) → (w ≡ WantsNothing → ⊥) → w ≡ Go
-goes-unless WantsNothing not = absurd (not refl)
-goes-unless Go not = refl
-
--- What a step leaves is the core after the pick, and it answers what the pick does.
-pub record IsPick (core new : CoreState) (k : ℕ) (answer : Stepped) : Type 0 where
-  pub pick_same : new ≡ pick core k
-  pub answer_same : answer ≡ pick_answer core k
-  pub reached : IsReached new
-  pub live : IsLive new
-
--- The controller made its next act.
-pub went : ControllersFollow → (plan : Plan) (tape : Tape) (mail : ℕ) (items : List Controller) (core : CoreState) (k : ℕ) (part : Part) (c new : Controller) (want : Want) →
-    core_of plan tape mail items ≡ core → IsReached (core_of plan tape mail items) → MayPick core k part c → want ≡ want_of c.ctl → (want ≡ WantsNothing → ⊥) → new ≡ with_next_act c →
-    IsPick core (core_of plan tape mail (slice_set items k new)) k Did
-went follow plan tape mail items core k part c new want is r may wants not did =
-    let go : want_of c.ctl ≡ Go = sym wants ∙ goes-unless want not in
-    let same : core_of plan tape mail (slice_set items k new) ≡ pick core k = seen-with plan tape mail items core k new is ∙ rw (may.here, go) (ap (with_controller core k) did) in
-    record {
-      pick_same = same;
-      answer_same = rw (may.here, go) refl;
-      reached = subst IsReached (sym same) (pick-reached follow core k (seen-reached _ core is r));
-      live = live (core_of plan tape mail (slice_set items k new));
-    }
-
--- It had none left.
-pub rested : (plan : Plan) (tape : Tape) (mail : ℕ) (items : List Controller) (core : CoreState) (k : ℕ) (part : Part) (c : Controller) (want : Want) →
-    core_of plan tape mail items ≡ core → IsReached (core_of plan tape mail items) → MayPick core k part c → want ≡ want_of c.ctl → want ≡ WantsNothing →
-    IsPick core (core_of plan tape mail (slice_set items k c)) k Ended
-rested plan tape mail items core k part c want is r may wants ended =
-    let none : want_of c.ctl ≡ WantsNothing = sym wants ∙ ended in
-    let kept : core_of plan tape mail (slice_set items k c) ≡ core =
-    seen-with plan tape mail items core k c is ∙ ap (λ cs. record core { controllers = cs }) (set-same core.controllers k c may.here) in
-    record {
-      pick_same = kept ∙ rw (may.here, none) refl;
-      answer_same = rw (may.here, none) refl;
-      reached = subst IsReached (sym kept) (seen-reached _ core is r);
-      live = live (core_of plan tape mail (slice_set items k c));
-    }

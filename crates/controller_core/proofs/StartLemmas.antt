@@ -7,12 +7,12 @@ use Rattle.qs_values.specs.declared.tape.Tape.{Tape}
 use Rattle.plan_tree.specs.declared.plan.Plan.{Plan}
 use Rattle.plan_tree.specs.declared.part.Part.{Part}
 use Rattle.plan_tree.specs.Parts.{part_of, parts_of}
-use Rattle.plan_tree.specs.Sound.{Fits, IsSound}
+use Rattle.plan_tree.specs.Sound.{IsSound, weight_of}
 use Rattle.controller_machine.specs.Ctl.{CtlState, start_ctl}
 use Rattle.controller_machine.specs.Laws.{ControllersFollow}
 use Rattle.controller_core.specs.declared.picks.Controller.{Controller}
-use Rattle.controller_core.specs.Core.{CoreState, IsLive, core_of, start_core, start_controller}
-use Rattle.controller_core.specs.Reached.{IsReached}
+use Rattle.controller_core.specs.Core.{CoreState, IsLive, core_of, no_mail, start_core, start_controller}
+use Rattle.controller_core.specs.Reached.{FollowsPlan, IsBounded, IsReached}
 use Rattle.controller_core.proofs.PickLemmas.{live, made-start, part-read, parts-long}
 
 -- The part that was read is that of its number.
@@ -36,8 +36,7 @@ pub core-made : (plan snap_plan : Plan) (tape snap_tape : Tape) (mail k : ℕ) (
     core_of snap_plan snap_tape mail items ≡ start_core plan tape mail
 core-made plan snap_plan tape snap_tape mail k items parts is_plan is_tape same so_far most least =
     let all : k ≡ plan.controllers = omega (arith, parts-long plan parts same) in
-    let long = length-map-range_with_len (start_controller plan tape) 0 plan.controllers in
-    rw (is_plan, is_tape, so_far, all, long) refl
+    rw (is_plan, is_tape, so_far, all) refl
 
 -- It has from 1 to 16 controllers.
 pub made-few : (plan : Plan) (tape : Tape) (len k : ℕ) (items : List Controller) (parts : List Part) → len ≡ length items → IsSound plan → parts ≡ parts_of plan →
@@ -46,15 +45,21 @@ made-few plan tape len k items parts is_len sound same so_far most least =
     let all : len ≡ plan.controllers = omega (arith, parts-long plan parts same, ap length so_far, length-map-range_with_len (start_controller plan tape) 0 k) in
     (omega (arith, sound.some), omega (arith, sound.few))
 
--- A core at the start is reached.
-pub start-reached : ControllersFollow → (plan : Plan) (tape : Tape) (mail : ℕ) → IsSound plan → Fits plan tape → 1 ≤ mail → mail ≤ 64 → IsReached (start_core plan tape mail)
-start-reached follow plan tape mail sound fits some few = record {
-  sound = sound;
-  fits = fits;
-  some_mail = some;
-  few_mail = few;
-  mailboxes = refl;
+start-bounded : (plan : Plan) (tape : Tape) (mail : ℕ) → 1 ≤ plan.controllers → plan.controllers ≤ 16 → weight_of plan ≤ 1048576 → 1 ≤ mail → mail ≤ 64 → IsBounded (start_core plan tape mail)
+start-bounded plan tape mail some few weight some_mail few_mail = record {
+  some = some;
+  few = few;
+  weight = weight;
+  some_mail = some_mail;
+  few_mail = few_mail;
   controllers = length-map-range_with_len (start_controller plan tape) 0 plan.controllers;
+}
+
+-- A core at the start follows its plan.
+pub start-follows : ControllersFollow → (plan : Plan) (tape : Tape) (mail : ℕ) → 1 ≤ plan.controllers → plan.controllers ≤ 16 → weight_of plan ≤ 1048576 → 1 ≤ mail → mail ≤ 64 → FollowsPlan (start_core plan tape mail)
+start-follows follow plan tape mail some few weight some_mail few_mail = record {
+  bounds = start-bounded plan tape mail some few weight some_mail few_mail;
+  mailboxes = ap no_mail (length-map-range_with_len (start_controller plan tape) 0 plan.controllers);
   made = λ k c here.
       let within = slice_get_within (map (start_controller plan tape) (range_with_len 0 plan.controllers)) k c here in
       let few : k < plan.controllers = omega (arith, within, length-map-range_with_len (start_controller plan tape) 0 plan.controllers) in
@@ -63,9 +68,18 @@ start-reached follow plan tape mail sound fits some few = record {
       made-start follow plan tape k c (ap (λ d. d.acts) is) (ap (λ d. d.ctl) is);
 }
 
--- So is one that is made.
-pub made-reached : ControllersFollow → (plan : Plan) (tape : Tape) (mail : ℕ) (core : CoreState) → core ≡ start_core plan tape mail → IsSound plan → Fits plan tape → 1 ≤ mail → mail ≤ 64 → IsReached core
-made-reached follow plan tape mail core start sound fits some few = subst IsReached (sym start) (start-reached follow plan tape mail sound fits some few)
+-- So does one that is made.
+pub made-follows : ControllersFollow → (plan : Plan) (tape : Tape) (mail : ℕ) (core : CoreState) → core ≡ start_core plan tape mail → IsSound plan → 1 ≤ mail → mail ≤ 64 → FollowsPlan core
+made-follows follow plan tape mail core start sound some few = subst FollowsPlan (sym start) (start-follows follow plan tape mail sound.some sound.few sound.weight some few)
+
+-- It is reached by no pick.
+pub made-reached : (plan : Plan) (tape : Tape) (mail : ℕ) (core : CoreState) → core ≡ start_core plan tape mail → IsSound plan → 1 ≤ mail → mail ≤ 64 → IsReached core
+made-reached plan tape mail core start sound some few =
+    subst IsReached (sym start) (record { bounds = start-bounded plan tape mail sound.some sound.few sound.weight some few; order = []; state = refl })
+
+-- the same start of the same plan, tape and capacity
+pub start-as : (plan plan' : Plan) (tape tape' : Tape) (mail mail' : ℕ) → plan' ≡ plan → tape' ≡ tape → mail' ≡ mail → start_core plan tape mail ≡ start_core plan' tape' mail'
+start-as plan plan' tape tape' mail mail' is_plan is_tape is_mail = rw (is_plan, is_tape, is_mail) refl
 
 -- No state of a core is stuck.
 pub made-live : (core start : CoreState) → core ≡ start → IsLive core

@@ -7,14 +7,15 @@ use Rattle.std.proofs.lemmas.List.Sums.{sum_by-cons}
 use Rattle.qs_values.specs.declared.tape.Tape.{Tape}
 use Rattle.plan_tree.specs.declared.plan.Plan.{Plan}
 use Rattle.plan_tree.specs.Acts.{planned_acts}
-use Rattle.plan_tree.specs.Sound.{IsSound}
+use Rattle.plan_tree.specs.Sound.{weight_of}
 use Rattle.controller_machine.specs.Laws.{ActsAreFew, ControllersFollow}
 use Rattle.controller_core.specs.declared.picks.Stepped.{Stepped}
 use Rattle.controller_core.specs.declared.picks.Stepped.TheVariants.{Stepped as Did, Ended}
 use Rattle.controller_core.specs.declared.picks.Controller.{Controller}
-use Rattle.controller_core.specs.Core.{CoreState, HaveEnded, acts_made, count_in, one_if_stepped, one_if_waited, pick, pick_answer, picks, sweep_of, with_sweeps}
-use Rattle.controller_core.specs.Reached.{IsReached, acts_planned}
-use Rattle.controller_core.proofs.PickLemmas.{ended-same, pick-idle, pick-mail, pick-made, pick-plan, pick-reached, pick-tape}
+use Rattle.controller_core.specs.Core.{CoreState, HaveEnded, acts_made, count_in, one_if_stepped, one_if_waited, pick, pick_answer, picks, start_core, sweep_of, with_sweeps}
+use Rattle.controller_core.specs.Reached.{FollowsPlan, IsReached, acts_planned}
+use Rattle.controller_core.proofs.StartLemmas.{start-as, start-follows}
+use Rattle.controller_core.proofs.PickLemmas.{ended-same, pick-count, pick-idle, pick-mail, pick-made, pick-plan, pick-follows, pick-tape}
 
 -- Picks joined.
 picks-append : (core : CoreState) (xs ys : List ℕ) → picks core (xs ++ ys) ≡ picks (picks core xs) ys
@@ -25,7 +26,7 @@ count-append : (one : Stepped → ℕ) (core : CoreState) (xs ys : List ℕ) →
 count-append one core [] ys = omega arith
 count-append one core (k ∷ xs) ys = omega (arith, count-append one (pick core k) xs ys)
 
--- Picks keep the plan, the tape and the capacity, and lead from a reached state to a reached state.
+-- Picks keep the plan, the tape and the capacity, and a core follows its plan after them.
 pub picks-plan : (core : CoreState) (ks : List ℕ) → (picks core ks).plan ≡ core.plan
 picks-plan core [] = refl
 picks-plan core (k ∷ ks) = picks-plan (pick core k) ks ∙ pick-plan core k
@@ -38,9 +39,34 @@ pub picks-mail : (core : CoreState) (ks : List ℕ) → (picks core ks).mail ≡
 picks-mail core [] = refl
 picks-mail core (k ∷ ks) = picks-mail (pick core k) ks ∙ pick-mail core k
 
-pub picks-reached : ControllersFollow → (core : CoreState) (ks : List ℕ) → IsReached core → IsReached (picks core ks)
-picks-reached follow core [] r = r
-picks-reached follow core (k ∷ ks) r = picks-reached follow (pick core k) ks (pick-reached follow core k r)
+pub picks-follows : ControllersFollow → (core : CoreState) (ks : List ℕ) → FollowsPlan core → FollowsPlan (picks core ks)
+picks-follows follow core [] r = r
+picks-follows follow core (k ∷ ks) r = picks-follows follow (pick core k) ks (pick-follows follow core k r)
+
+-- A core that picks lead to follows its plan.
+pub reached-follows : ControllersFollow → (core : CoreState) → IsReached core → FollowsPlan core
+reached-follows follow core r =
+    let start = start-follows follow core.plan core.tape core.mail r.bounds.some r.bounds.few r.bounds.weight r.bounds.some_mail r.bounds.few_mail in
+    subst FollowsPlan (sym r.state) (picks-follows follow (start_core core.plan core.tape core.mail) r.order start)
+
+-- A pick more leads to another.
+pub pick-reached : (core : CoreState) (k : ℕ) → IsReached core → IsReached (pick core k)
+pick-reached core k r =
+    let start = start_core core.plan core.tape core.mail in
+    let moved = ap (λ c. pick c k) r.state ∙ sym (picks-append start r.order (k ∷ [])) in
+    let same = start-as core.plan (pick core k).plan core.tape (pick core k).tape core.mail (pick core k).mail (pick-plan core k) (pick-tape core k) (pick-mail core k) in
+    record {
+      bounds = record {
+        some = omega (arith, ap (λ p. p.controllers) (pick-plan core k), r.bounds.some);
+        few = omega (arith, ap (λ p. p.controllers) (pick-plan core k), r.bounds.few);
+        weight = omega (arith, ap weight_of (pick-plan core k), r.bounds.weight);
+        some_mail = omega (arith, pick-mail core k, r.bounds.some_mail);
+        few_mail = omega (arith, pick-mail core k, r.bounds.few_mail);
+        controllers = omega (arith, pick-count core k, ap (λ p. p.controllers) (pick-plan core k), r.bounds.controllers);
+      };
+      order = r.order ++ k ∷ [];
+      state = moved ∙ ap (λ c. picks c (r.order ++ k ∷ [])) same;
+    }
 
 -- The picks that step count all acts.
 pub picks-made : (core : CoreState) (ks : List ℕ) → acts_made (picks core ks) ≡ acts_made core + count_in one_if_stepped core ks
@@ -66,19 +92,17 @@ count-most one most core (k ∷ ks) = omega (arith, most (pick_answer core k), c
 
 -- Of these picks from an old core some are still to be made.
 pub record Goes (old : CoreState) (all : List ℕ) (now : CoreState) (left : List ℕ) (stepped waited : ℕ) : Type 0 where
-  pub reached : IsReached now
   pub plan : now.plan ≡ old.plan
   pub state : picks now left ≡ picks old all
   pub steps : stepped + count_in one_if_stepped now left ≡ count_in one_if_stepped old all
   pub waits : waited + count_in one_if_waited now left ≡ count_in one_if_waited old all
 
-pub goes-start : (old : CoreState) (all : List ℕ) → IsReached old → Goes old all old all 0 0
-goes-start old all r = record { reached = r; plan = refl; state = refl; steps = omega arith; waits = omega arith }
+pub goes-start : (old : CoreState) (all : List ℕ) → Goes old all old all 0 0
+goes-start old all = record { plan = refl; state = refl; steps = omega arith; waits = omega arith }
 
 pub goes-on : (old now new : CoreState) (all left rest : List ℕ) (k stepped waited : ℕ) (answer : Stepped) → Goes old all now left stepped waited → left ≡ k ∷ rest →
-    IsReached new → new ≡ pick now k → answer ≡ pick_answer now k → Goes old all new rest (stepped + one_if_stepped answer) (waited + one_if_waited answer)
-goes-on old now new all left rest k stepped waited answer goes is_left r is_new is_answer = record {
-  reached = r;
+    new ≡ pick now k → answer ≡ pick_answer now k → Goes old all new rest (stepped + one_if_stepped answer) (waited + one_if_waited answer)
+goes-on old now new all left rest k stepped waited answer goes is_left is_new is_answer = record {
   plan = ap (λ c. c.plan) is_new ∙ pick-plan now k ∙ goes.plan;
   state = ap (λ c. picks c rest) is_new ∙ ap (picks now) (sym is_left) ∙ goes.state;
   steps = omega (arith, goes.steps, ap (count_in one_if_stepped now) is_left, ap (λ c. count_in one_if_stepped c rest) is_new, ap one_if_stepped is_answer);
@@ -127,18 +151,18 @@ ended-idle core ended = range-idle core ended 0 core.plan.controllers (omega ari
 -- The order's picks and so many sweeps were made, and in each sweep one stepped.
 pub record HasRun (order : List ℕ) (old now : CoreState) (stepped waited : ℕ) : Type 0 where
   pub sweeps : ℕ
-  pub reached : IsReached now
+  pub follows : FollowsPlan now
   pub state : now ≡ picks old (with_sweeps order old.plan.controllers sweeps)
   pub steps : stepped ≡ count_in one_if_stepped old (with_sweeps order old.plan.controllers sweeps)
   pub waits : waited ≡ count_in one_if_waited old (with_sweeps order old.plan.controllers sweeps)
   pub until : (n : ℕ) → n < sweeps → HaveEnded (picks old (with_sweeps order old.plan.controllers n)) → ⊥
   pub busy : (n : ℕ) → n < sweeps → 0 < count_in one_if_stepped (picks old (with_sweeps order old.plan.controllers n)) (sweep_of old.plan.controllers)
 
-pub run-ordered : (order : List ℕ) (old now : CoreState) (stepped waited : ℕ) → IsReached now → now ≡ picks old order →
+pub run-ordered : ControllersFollow → (order : List ℕ) (seen old now : CoreState) (stepped waited : ℕ) → seen ≡ old → IsReached seen → now ≡ picks old order →
     stepped ≡ count_in one_if_stepped old order → waited ≡ count_in one_if_waited old order → HasRun order old now stepped waited
-run-ordered order old now stepped waited r state steps waits = record {
+run-ordered follow order seen old now stepped waited is r state steps waits = record {
   sweeps = 0;
-  reached = r;
+  follows = subst FollowsPlan (sym state) (picks-follows follow old order (reached-follows follow old (subst IsReached is r)));
   state = state;
   steps = steps;
   waits = waits;
@@ -156,17 +180,17 @@ pub run-made : (order : List ℕ) (old now : CoreState) (stepped waited : ℕ) �
 run-made order old now stepped waited run = omega (arith, ap acts_made run.state, picks-made old (with_sweeps order old.plan.controllers run.sweeps), run.steps)
 
 -- One sweep more.
-pub run-swept : (order : List ℕ) (old now new : CoreState) (stepped waited more_stepped more_waited : ℕ) → HasRun order old now stepped waited → IsReached new → 0 < more_stepped →
+pub run-swept : ControllersFollow → (order : List ℕ) (old now new : CoreState) (stepped waited more_stepped more_waited : ℕ) → HasRun order old now stepped waited → 0 < more_stepped →
     new ≡ picks now (sweep_of now.plan.controllers) → more_stepped ≡ count_in one_if_stepped now (sweep_of now.plan.controllers) →
     more_waited ≡ count_in one_if_waited now (sweep_of now.plan.controllers) → HasRun order old new (stepped + more_stepped) (waited + more_waited)
-run-swept order old now new stepped waited more_stepped more_waited run r some state steps waits =
+run-swept follow order old now new stepped waited more_stepped more_waited run some state steps waits =
     let n = old.plan.controllers in
     let same = ap (λ p. sweep_of p.controllers) (run-plan order old now stepped waited run).0 in
     let ks = with_sweeps order n run.sweeps in
     let added : more_stepped ≡ count_in one_if_stepped (picks old ks) (sweep_of n) = steps ∙ ap (count_in one_if_stepped now) same ∙ ap (λ c. count_in one_if_stepped c (sweep_of n)) run.state in
     record {
       sweeps = suc run.sweeps;
-      reached = r;
+      follows = subst FollowsPlan (sym state) (picks-follows follow now (sweep_of now.plan.controllers) run.follows);
       state = state ∙ ap (picks now) same ∙ ap (λ c. picks c (sweep_of n)) run.state ∙ sym (picks-append old ks (sweep_of n));
       steps = omega (arith, run.steps, added, count-append one_if_stepped old ks (sweep_of n));
       waits = omega (arith, run.waits, waits, ap (count_in one_if_waited now) same, ap (λ c. count_in one_if_waited c (sweep_of n)) run.state, count-append one_if_waited old ks (sweep_of n));
@@ -196,20 +220,20 @@ sum-most f j (c ∷ cs) most =
     )
 
 -- No more acts are made than are planned.
-made-most : (core : CoreState) → IsReached core → acts_made core ≤ sum (acts_planned core.plan core.tape)
+made-most : (core : CoreState) → FollowsPlan core → acts_made core ≤ sum (acts_planned core.plan core.tape)
 made-most core r =
     let f : ℕ → ℕ = λ k. length (planned_acts core.plan core.tape k) in
-    omega (arith, sum-most f 0 core.controllers (λ k c e. omega (arith, (r.made k c e).within, ap f (zero-add k))), ap (λ n. sum (map f (range_with_len 0 n))) r.controllers)
+    omega (arith, sum-most f 0 core.controllers (λ k c e. omega (arith, (r.made k c e).within, ap f (zero-add k))), ap (λ n. sum (map f (range_with_len 0 n))) r.bounds.controllers)
 
-acts-sum : ActsAreFew → (plan : Plan) (tape : Tape) (n k : ℕ) → IsSound plan → sum (map (λ k. length (planned_acts plan tape k)) (range_with_len k n)) ≤ 1048576 * n
-acts-sum few plan tape zero k sound = omega arith
-acts-sum few plan tape (suc n) k sound =
-    omega (arith, sum_by-cons (λ n. n) (length (planned_acts plan tape k)) (map (λ k. length (planned_acts plan tape k)) (range_with_len (k + 1) n)), few plan tape k, sound.weight, acts-sum few plan tape n (k + 1) sound)
+acts-sum : ActsAreFew → (plan : Plan) (tape : Tape) (n k : ℕ) → weight_of plan ≤ 1048576 → sum (map (λ k. length (planned_acts plan tape k)) (range_with_len k n)) ≤ 1048576 * n
+acts-sum few plan tape zero k light = omega arith
+acts-sum few plan tape (suc n) k light =
+    omega (arith, sum_by-cons (λ n. n) (length (planned_acts plan tape k)) (map (λ k. length (planned_acts plan tape k)) (range_with_len (k + 1) n)), few plan tape k, light, acts-sum few plan tape n (k + 1) light)
 
 -- So a run's steps are few.
 pub run-few : ActsAreFew → (order : List ℕ) (old now : CoreState) (stepped waited : ℕ) → HasRun order old now stepped waited → stepped ≤ 16777216
 run-few few order old now stepped waited run =
-    omega (arith, run-made order old now stepped waited run, made-most now run.reached, acts-sum few now.plan now.tape now.plan.controllers 0 run.reached.sound, run.reached.sound.few)
+    omega (arith, run-made order old now stepped waited run, made-most now run.follows, acts-sum few now.plan now.tape now.plan.controllers 0 run.follows.bounds.weight, run.follows.bounds.few)
 
 no-waits : (core : CoreState) (ks : List ℕ) → count_in one_if_waited core ks ≡ 0
 no-waits core [] = refl
@@ -228,7 +252,7 @@ run-smaller order old now new stepped waited more_stepped more_waited run more l
       arith,
       run-made order old now stepped waited run,
       run-made order old new more_stepped more_waited more,
-      made-most new more.reached,
+      made-most new more.follows,
       ap (λ p. sum (acts_planned p new.tape)) kept.0,
       ap (λ t. sum (acts_planned old.plan t)) kept.1,
     )

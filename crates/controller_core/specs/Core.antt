@@ -36,13 +36,7 @@ start_controller plan tape k = record { ctl = start_ctl plan tape k; acts = 0 }
 
 -- a core at the start
 abbrev pub start_core : Plan → Tape → ℕ → CoreState
-start_core plan tape mail = record {
-  plan = plan;
-  tape = tape;
-  mail = mail;
-  mailboxes = no_mail plan.controllers;
-  controllers = map (start_controller plan tape) (range_with_len 0 plan.controllers);
-}
+start_core plan tape mail = core_of plan tape mail (map (start_controller plan tape) (range_with_len 0 plan.controllers))
 
 -- a controller that makes its next act
 abbrev pub with_next_act : Controller → Controller

@@ -3,7 +3,7 @@ ghost use Rattle.plan_tree.specs.Parts.{parts_of};
 ghost use Rattle.plan_tree.specs.Sound.{Fits, IsSound};
 ghost use Rattle.controller_machine.specs.Ctl.{entries_next, want_of};
 ghost use Rattle.controller_core.specs.Core.{IsLive, Runs, with_next_act, acts_made, count_in, one_if_stepped, one_if_waited, pick, pick_answer, picks, start_core, sweep_of};
-ghost use Rattle.controller_core.specs.Reached.{IsOver, IsReached, acts_planned};
+ghost use Rattle.controller_core.specs.Reached.{FollowsPlan, IsOver, acts_planned};
 
 use controller_machine::{Ctl, Ctls, Want, acts_are_few, controllers_follow, controllers_walk};
 use plan_tree::{Part, Plan};
@@ -131,7 +131,7 @@ impl Core {
         requires few_mail { mail ≤ 64 }
         requires parts { parts.now ≡ parts_of plan.now }
         ensures start { IfOk result (λ c. c ≡ start_core plan.now tape.now mail) }
-        ensures reached { IfOk result IsReached }
+        ensures follows { IfOk result FollowsPlan }
         ensures live { IfOk result IsLive }
     {
         controllers_follow();
@@ -154,7 +154,7 @@ impl Core {
         requires controller { k < self.old.plan.controllers }
         ensures pick { self.new ≡ pick self.old k }
         ensures answer { result ≡ pick_answer self.old k }
-        ensures reached { IsReached self.new }
+        ensures follows { FollowsPlan self.new }
         ensures live { IsLive self.new }
     {
         controllers_follow();
@@ -178,8 +178,10 @@ impl Core {
         ensures all { result.stepped + acts_made self.old
             ≡ sum (acts_planned self.old.plan self.old.tape) }
     {
+        controllers_follow();
         controllers_walk();
         acts_are_few();
+        let _mail = self.mail;
         let mut counts = self.pick_all(parts, order);
         loop {
             let swept = self.sweep(parts);
@@ -197,9 +199,7 @@ impl Core {
         ensures picks { self.new ≡ picks self.old order.now }
         ensures stepped { result.stepped ≡ count_in one_if_stepped self.old order.now }
         ensures waited { result.waited ≡ count_in one_if_waited self.old order.now }
-        ensures reached { IsReached self.new }
     {
-        let _mail = self.mail;
         let mut counts = Counts::none();
         for k in order {
             counts = counts.with(self.step(parts, *k));
@@ -215,7 +215,6 @@ impl Core {
             ≡ count_in one_if_stepped self.old (sweep_of self.old.plan.controllers) }
         ensures waited { result.waited
             ≡ count_in one_if_waited self.old (sweep_of self.old.plan.controllers) }
-        ensures reached { IsReached self.new }
     {
         let mut counts = Counts::none();
         let controllers = self.controllers.len() as u8;

@@ -24,6 +24,7 @@ use Rattle.controller_machine.specs.Laws.{LogsStandInOrder}
 use Rattle.controller_machine.specs.Log.{log_of, play_key, played_by, played_in, timeline_of}
 use Rattle.controller_machine.proofs.Entries.{entry_of, event_entries, stmt_entries, entries_of, length_in, run-trace}
 use Rattle.controller_machine.proofs.Timeline.{all-log}
+use Rattle.controller_machine.proofs.Sizes.{block-sound}
 
 -- The second play may stand after the first.
 abbrev MayPrecede : Played → Played → Type 0
@@ -84,11 +85,11 @@ events-order frames here n tick (e ∷ es) pairs =
 stmt-within : (plan : Plan) (frames : List FrameState) (here : Place) (tick : ℕ) (x : PlanStmt) → IsSoundStmt plan false x → All (IsWithin tick (length_in x)) (timeline_of (stmt_entries frames here tick x))
 stmt-within plan frames here tick (PlanBlock b) sound =
     events-all (IsWithin tick b.length) frames here 0 tick b.events
-    (All-weaker (IsSoundEvent plan b.length) (λ e. (p : Played) → IsOf tick e p → IsWithin tick b.length p) (of-within plan b.length tick) b.events sound.events)
+    (All-weaker (IsSoundEvent plan b.length) (λ e. (p : Played) → IsOf tick e p → IsWithin tick b.length p) (of-within plan b.length tick) b.events (block-sound plan false b sound).events)
 
 stmt-order : (total : IsTotalOrder start_cmp) (plan : Plan) (frames : List FrameState) (here : Place) (tick : ℕ) (x : PlanStmt) → IsSoundStmt plan false x → AllPairs MayPrecede (timeline_of (stmt_entries frames here tick x))
 stmt-order total plan frames here tick (PlanBlock b) sound =
-    events-order frames here 0 tick b.events (AllPairs-from_sorted (λ d e. is_lt (start_cmp (start_key d) (start_key e))) (ranks_by total start_key) b.events sound.order)
+    events-order frames here 0 tick b.events (AllPairs-from_sorted (λ d e. is_lt (start_cmp (start_key d) (start_key e))) (ranks_by total start_key) b.events (block-sound plan false b sound).order)
 
 body-from : (plan : Plan) (frames : List FrameState) (here : Place) (n tick : ℕ) (xs : List PlanStmt) → All (IsSoundStmt plan false) xs → All (IsFrom tick) (timeline_of (entries_of frames here n tick xs))
 body-from plan frames here n tick [] sound = All-nil (IsFrom tick)

@@ -18,7 +18,7 @@ use Rattle.plan_tree.specs.declared.part.PartStmt.{PartStmt}
 use Rattle.plan_tree.specs.declared.part.PartStmt.TheVariants.{Block, Wait}
 use Rattle.plan_tree.specs.Run.{Place, Entry, Pulsed, frame_at, start_frames}
 use Rattle.plan_tree.specs.Acts.{Act, Own, actor, acts_in, all_acts, acts_of, planned_acts}
-use Rattle.plan_tree.specs.Parts.{owner_of, is_own, items_of, block_or_wait, kept_in_order, part_stmt, part_of}
+use Rattle.plan_tree.specs.Parts.{deed_items, owner_of, is_own, items_of, block_or_wait, kept_in_order, part_stmt, part_of}
 use Rattle.controller_machine.specs.steps.Left.{ticks_of}
 use Rattle.controller_machine.proofs.Entries.{entry_of, event_entries, stmt_entries, entries_of, length_in, tick_after, run-trace}
 
@@ -53,18 +53,39 @@ first-act plan k frames here tick e (Pulse f w) rest = by_test (is_own plan k e)
     by_test true own = let same : owner_of plan e.port ≡ k = grind (arith, nat_tests) in rw same refl
     by_test false other = refl
 
+-- a controller's own events, as items
+abbrev own_items : Plan → ℕ → List Event → List Item
+own_items plan k events = map OwnItem (filter (is_own plan k) events)
+
+deed-own : (plan : Plan) (k : ℕ) (e : Event) (d : Deed) (events : List Event) (rest : List Item) → rest ≡ map OwnItem events →
+    deed_items plan k e d ++ rest ≡ map OwnItem (cond (is_own plan k e) (e ∷ events) events)
+deed-own plan k e (Pulse f w) events rest same = by_test (is_own plan k e)
+  where
+    by_test : (b : Bool) → cond b (OwnItem e ∷ []) [] ++ rest ≡ map OwnItem (cond b (e ∷ events) events)
+    by_test true = ap (λ items. OwnItem e ∷ items) same
+    by_test false = same
+
+-- What a controller does in a block are its own events.
+pub items-own : (plan : Plan) (k : ℕ) (events : List Event) → items_of plan k events ≡ own_items plan k events
+items-own plan k [] = refl
+items-own plan k (e ∷ es) = deed-own plan k e e.act (filter (is_own plan k) es) (items_of plan k es) (items-own plan k es)
+
 -- the items of an event and others
 first-item : (f : Item → Act) (b : Bool) (e : Event) (events : List Event) (rest : List Act) → rest ≡ map f (map OwnItem events) →
     cond b (f (OwnItem e) ∷ rest) rest ≡ map f (map OwnItem (cond b (e ∷ events) events))
 first-item f true e events rest same = ap (λ acts. f (OwnItem e) ∷ acts) same
 first-item f false e events rest same = same
 
+own-events-acts : (plan : Plan) (k : ℕ) (frames : List FrameState) (here : Place) (n tick : ℕ) (events : List Event) →
+    own_acts plan k (event_entries frames here n tick events) ≡ map (item_act k frames tick) (own_items plan k events)
+own-events-acts plan k frames here n tick [] = refl
+own-events-acts plan k frames here n tick (e ∷ es) =
+    first-act plan k frames (n ∷ here) tick e e.act (all_acts plan (event_entries frames here (n + 1) tick es))
+    ∙ first-item (item_act k frames tick) (is_own plan k e) e (filter (is_own plan k) es) _ (own-events-acts plan k frames here (n + 1) tick es)
+
 events-acts : (plan : Plan) (k : ℕ) (frames : List FrameState) (here : Place) (n tick : ℕ) (events : List Event) →
     own_acts plan k (event_entries frames here n tick events) ≡ map (item_act k frames tick) (items_of plan k events)
-events-acts plan k frames here n tick [] = refl
-events-acts plan k frames here n tick (e ∷ es) =
-    first-act plan k frames (n ∷ here) tick e e.act (all_acts plan (event_entries frames here (n + 1) tick es))
-    ∙ first-item (item_act k frames tick) (is_own plan k e) e (filter (is_own plan k) es) _ (events-acts plan k frames here (n + 1) tick es)
+events-acts plan k frames here n tick events = own-events-acts plan k frames here n tick events ∙ ap (map (item_act k frames tick)) (sym (items-own plan k events))
 
 block-acts : (k : ℕ) (frames : List FrameState) (tick ticks : ℕ) (items : List Item) (rest : List PartStmt) →
     part_acts k frames tick (block_or_wait ticks items ∷ rest) ≡ map (item_act k frames tick) items ++ part_acts k frames (tick + ticks) rest

@@ -8,6 +8,7 @@ use Rattle.std.proofs.lemmas.List.Sums.{sum_by-cons, sum_by-append, length-filte
 use Rattle.qs_values.specs.declared.tape.Tape.{Tape}
 use Rattle.plan_tree.specs.declared.frame.FrameState.{FrameState}
 use Rattle.plan_tree.specs.declared.plan.Plan.{Plan}
+use Rattle.plan_tree.specs.declared.plan.Block.{Block as Block-}
 use Rattle.plan_tree.specs.declared.plan.Event.{Event}
 use Rattle.plan_tree.specs.declared.plan.Deed.{Deed}
 use Rattle.plan_tree.specs.declared.plan.Deed.TheVariants.{Pulse}
@@ -21,25 +22,33 @@ use Rattle.plan_tree.specs.Deeds.{plays}
 use Rattle.plan_tree.specs.Run.{Place, Entry, Happening, Pulsed, start_frames, run_of}
 use Rattle.plan_tree.specs.Acts.{Act, actor, acts_by, all_acts, planned_acts}
 use Rattle.plan_tree.specs.Parts.{is_own, items_of, block_or_wait, kept_in_order, part_stmt, part_of}
-use Rattle.plan_tree.specs.Sound.{IsSoundDeed, IsSoundEvent, IsSoundStmt, weight_in, weight_all}
+use Rattle.plan_tree.specs.Sound.{IsMet, IsSoundBlock, IsSoundDeed, IsSoundEvent, IsSoundStmt, OfBlock, weight_in}
 use Rattle.controller_machine.specs.declared.ctl.Played.{Played}
 use Rattle.controller_machine.specs.Ctl.{most, most_in}
 use Rattle.controller_machine.specs.Laws.{ActsAreFew}
 use Rattle.controller_machine.specs.steps.Left.{IsNear, items_left, ticks_of}
 use Rattle.controller_machine.specs.Log.{log_of, played_by}
 use Rattle.controller_machine.proofs.Entries.{entries_of, event_entries, stmt_entries, length_in, run-trace}
-use Rattle.controller_machine.proofs.Parts.{acts-planned, item_act, part_acts, ticks-stmt}
+use Rattle.controller_machine.proofs.Parts.{acts-planned, items-own, item_act, part_acts, ticks-stmt}
 
 -- whether an item plays
 abbrev plays_item : Item → Bool
 plays_item (Own e) = plays e.act
 
+-- how much statements weigh
+abbrev weight_all : ℕ → List PlanStmt → ℕ
+weight_all budget body = sum (map (weight_in budget) body)
+
 weight-cons : (budget : ℕ) (x : PlanStmt) (xs : List PlanStmt) → weight_all budget (x ∷ xs) ≡ weight_in budget x + weight_all budget xs
 weight-cons budget x xs = sum_by-cons (λ n. n) (weight_in budget x) (map (weight_in budget) xs)
 
+-- A statement that is a block is sound as its block is.
+pub block-sound : (plan : Plan) (in_loop : Bool) (b : Block-) → IsSoundStmt plan in_loop (PlanBlock b) → IsSoundBlock plan b
+block-sound plan in_loop b sound = All-head (IsMet plan) (OfBlock b) [] sound
+
 -- a statement of a sound plan is at most 2^40 ticks long
 stmt-short : (plan : Plan) (x : PlanStmt) → IsSoundStmt plan false x → length_in x ≤ 2 ^ 40
-stmt-short plan (PlanBlock b) sound = sound.length
+stmt-short plan (PlanBlock b) sound = (block-sound plan false b sound).length
 
 stmt-weighs : (budget : ℕ) (x : PlanStmt) → 1 ≤ weight_in budget x
 stmt-weighs budget (PlanBlock b) = omega arith
@@ -76,11 +85,11 @@ event-near plan ticks e short sound = deed-near plan ticks e e.act short sound.a
 pub items-near : (plan : Plan) (k : ℕ) (here : Place) (n : ℕ) (body : List PlanStmt) → All (IsSoundStmt plan false) body → All IsNear (items_left (part_from plan k here n body) 0)
 items-near plan k here n [] sound = All-nil IsNear
 items-near plan k here n (PlanBlock b ∷ xs) sound =
-    let block = All-head (IsSoundStmt plan false) (PlanBlock b) xs sound in
+    let block = block-sound plan false b (All-head (IsSoundStmt plan false) (PlanBlock b) xs sound) in
     let near = All-weaker (IsSoundEvent plan b.length) (λ e. IsNear (Own e)) (λ e h. event-near plan b.length e block.length h) b.events block.events in
     let own = All-map IsNear Own (filter (is_own plan k) b.events) (All-filter (is_own plan k) (λ e. IsNear (Own e)) b.events near) in
     subst (All IsNear) (sym (items-block b.length (items_of plan k b.events) (part_from plan k here (n + 1) xs)))
-    (All-append IsNear (items_of plan k b.events) _ own (items-near plan k here (n + 1) xs (All-tail (IsSoundStmt plan false) (PlanBlock b) xs sound)))
+    (All-append IsNear (items_of plan k b.events) _ (subst (All IsNear) (sym (items-own plan k b.events)) own) (items-near plan k here (n + 1) xs (All-tail (IsSoundStmt plan false) (PlanBlock b) xs sound)))
 
 -- A part's items are at most what its plan weighs.
 pub items-weigh : (plan : Plan) (k : ℕ) (here : Place) (n : ℕ) (body : List PlanStmt) → length (items_left (part_from plan k here n body) 0) ≤ weight_all plan.budget body
@@ -88,7 +97,7 @@ items-weigh plan k here n [] = omega arith
 items-weigh plan k here n (PlanBlock b ∷ xs) =
     let left = ap length (items-block b.length (items_of plan k b.events) (part_from plan k here (n + 1) xs)) in
     let both = length-append (items_of plan k b.events) (items_left (part_from plan k here (n + 1) xs) 0) in
-    let own = length-map (filter (is_own plan k) b.events) Own ∙ length-filter (is_own plan k) b.events in
+    let own = ap length (items-own plan k b.events) ∙ length-map (filter (is_own plan k) b.events) Own ∙ length-filter (is_own plan k) b.events in
     omega (arith, left, both, own, count_by-le-length (is_own plan k) b.events, items-weigh plan k here (n + 1) xs, weight-cons plan.budget (PlanBlock b) xs)
 
 -- an event before others whose items are counted
@@ -98,15 +107,18 @@ one-plays true played e events same = sum_by-cons _ (Own e) (map Own events) ∙
 one-plays false played e events same = omega arith
 
 -- the items of a block that play
-own-play : (plan : Plan) (k : ℕ) (events : List Event) → count_by plays_item (items_of plan k events) ≡ count_by (λ e. is_own plan k e && plays e.act) events
-own-play plan k [] = refl
-own-play plan k (e ∷ es) =
+listed-play : (plan : Plan) (k : ℕ) (events : List Event) → count_by plays_item (map Own (filter (is_own plan k) events)) ≡ count_by (λ e. is_own plan k e && plays e.act) events
+listed-play plan k [] = refl
+listed-play plan k (e ∷ es) =
     omega (
       arith,
       one-plays (is_own plan k e) (plays e.act) e (filter (is_own plan k) es) refl,
-      own-play plan k es,
+      listed-play plan k es,
       sum_by-cons (λ d. cond (is_own plan k d && plays d.act) 1 0) e es,
     )
+
+own-play : (plan : Plan) (k : ℕ) (events : List Event) → count_by plays_item (items_of plan k events) ≡ count_by (λ e. is_own plan k e && plays e.act) events
+own-play plan k events = ap (count_by plays_item) (items-own plan k events) ∙ listed-play plan k events
 
 -- A part's items that play are as many as its controller's log may have entries.
 pub items-most : (plan : Plan) (k : ℕ) (here : Place) (n : ℕ) (body : List PlanStmt) → count_by plays_item (items_left (part_from plan k here n body) 0) ≡ sum (map (most_in plan k) body)

@@ -21,6 +21,7 @@ use Rattle.controller_machine.specs.declared.ctl.Played.{Played}
 use Rattle.controller_machine.specs.Laws.{LogsAreTheTimeline}
 use Rattle.controller_machine.specs.Log.{played_at, played_by, log_of, timeline_of}
 use Rattle.controller_machine.proofs.Entries.{entry_of, event_entries, stmt_entries, entries_of, length_in, run-trace}
+use Rattle.controller_machine.proofs.Sizes.{block-sound}
 
 -- what an entry's acts play, before what others play
 entry-log : (plan : Plan) (e : Entry) (what : Happening) (rest : List Act) → log_of (acts_by plan e what ++ rest) ≡ cons_option (played_at e.tick e.what) (log_of rest)
@@ -104,7 +105,7 @@ events-below plan frames here n ticks tick (e ∷ es) sound all =
     (events-below plan frames here (n + 1) ticks tick es sound (All-tail (IsSoundEvent plan ticks) e es all))
 
 stmt-below : (plan : Plan) (frames : List FrameState) (here : Place) (tick : ℕ) (x : PlanStmt) → IsSound plan → IsSoundStmt plan false x → All (IsBelow plan) (all_acts plan (stmt_entries frames here tick x))
-stmt-below plan frames here tick (PlanBlock b) sound stmt = events-below plan frames here 0 b.length tick b.events sound stmt.events
+stmt-below plan frames here tick (PlanBlock b) sound stmt = events-below plan frames here 0 b.length tick b.events sound (block-sound plan false b stmt).events
 
 body-below : (plan : Plan) (frames : List FrameState) (here : Place) (n tick : ℕ) (body : List PlanStmt) → IsSound plan → All (IsSoundStmt plan false) body → All (IsBelow plan) (all_acts plan (entries_of frames here n tick body))
 body-below plan frames here n tick [] sound all = All-nil (IsBelow plan)

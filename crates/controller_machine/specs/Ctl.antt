@@ -70,14 +70,7 @@ entries_next c = entries_at (item_of c.part.body c.stand)
 
 -- what an event of a block that began at this tick plays
 abbrev pub played_of : List FrameState → ℕ → Event → Deed → Played
-played_of frames tick e (Pulse f w) = record {
-  tick = tick + e.offset;
-  port = e.port;
-  wave = w;
-  phase = (frame_at frames f).phase;
-  hz = (frame_at frames f).hz;
-  bit = None;
-}
+played_of frames tick e (Pulse f w) = record { tick = tick + e.offset; port = e.port; wave = w; phase = (frame_at frames f).phase; hz = (frame_at frames f).hz; bit = None }
 
 -- a controller that has done a deed of its own, of a block that began at this tick
 abbrev pub with_deed : CtlState → ℕ → Event → Deed → CtlState

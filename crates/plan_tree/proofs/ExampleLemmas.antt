@@ -5,13 +5,16 @@ use Rattle.std.specs.List.{IsDistinct}
 use Rattle.std.specs.List.Sorted.{IsSortedByKey}
 use Rattle.std.proofs.lemmas.List.Elements.{All-from_recursion, All-nil}
 use Rattle.qs_values.specs.declared.kind.Kind.TheVariants.{Bit}
+use Rattle.plan_tree.specs.declared.plan.Plan.{Plan}
+use Rattle.plan_tree.specs.declared.plan.Block.{Block as Block-}
 use Rattle.plan_tree.specs.declared.plan.Deed.TheVariants.{Pulse}
+use Rattle.plan_tree.specs.declared.plan.PlanStmt.TheVariants.{Block as PlanBlock}
 use Rattle.plan_tree.specs.Acts.{Act, Own, all_acts, planned_acts}
 use Rattle.plan_tree.specs.Deeds.{plays}
 use Rattle.plan_tree.specs.examples.TwoBlocks.{byte, example_outcome, example_parts, example_plan, example_tape, first, first_block, first_pulse, register, second, second_block, second_pulse, third, third_pulse}
 use Rattle.plan_tree.specs.Parts.{parts_of}
 use Rattle.plan_tree.specs.Run.{Entry, run_of}
-use Rattle.plan_tree.specs.Sound.{AreApart, Fits, HasVars, IsSound, IsSoundBlock, IsSoundDeed, IsSoundEvent, IsSoundStmt, after_input, same_start, start_cmp, start_key, weight_of}
+use Rattle.plan_tree.specs.Sound.{AreApart, Fits, HasVars, IsMet, IsSound, IsSoundBlock, IsSoundDeed, IsSoundEvent, IsSoundStmt, OfBlock, after_input, same_start, start_cmp, start_key, weight_of}
 
 run-fit : run_of example_plan example_tape ≡ example_outcome
 run-fit = refl
@@ -92,6 +95,10 @@ second-sound = record {
   apart = second-distinct;
 }
 
+-- a block that is sound by itself
+block-sound : (plan : Plan) (b : Block-) → IsSoundBlock plan b → IsSoundStmt plan false (PlanBlock b)
+block-sound plan b sound = All-from_recursion (IsMet plan) (OfBlock b ∷ []) (sound, tt)
+
 pub plan-sound : IsSound example_plan
 plan-sound = record {
   some = omega arith;
@@ -103,7 +110,7 @@ plan-sound = record {
   inputs = All-from_recursion (λ i. HasVars example_plan.vars i.first i.ty.kind i.ty.width) example_plan.inputs (three-bits, ((refl, refl), tt));
   apart = inputs-apart;
   outs = All-nil _;
-  body = All-from_recursion (IsSoundStmt example_plan false) example_plan.body (first-sound, (second-sound, tt));
+  body = All-from_recursion (IsSoundStmt example_plan false) example_plan.body (block-sound example_plan first_block first-sound, (block-sound example_plan second_block second-sound, tt));
   gap = omega arith;
   turns = omega arith;
   budget = omega arith;

@@ -1,9 +1,11 @@
 -- What each controller has of a plan: need and keep, and the parts. This project's own.
 -- A controller keeps the events of its ports, and each statement that holds one. The hub, controller 0, reads every variable.
-use Rattle.std.specs.Prelude.{ℕ, ◌+◌, List, [], ◌∷◌, ◌++◌, length, map, filter, replicate, slice_index, Bool, nat_eq}
-use Rattle.std.specs.List.{range_with_len}
+use Rattle.std.specs.Prelude.{ℕ, ◌+◌, List, [], ◌∷◌, ◌++◌, length, map, replicate, slice_index, Bool, nat_eq, if◌then◌else◌}
+use Rattle.std.specs.List.{flat_map, range_with_len}
 use Rattle.plan_tree.specs.declared.plan.Plan.{Plan}
 use Rattle.plan_tree.specs.declared.plan.Event.{Event}
+use Rattle.plan_tree.specs.declared.plan.Deed.{Deed}
+use Rattle.plan_tree.specs.declared.plan.Deed.TheVariants.{Pulse}
 use Rattle.plan_tree.specs.declared.plan.PlanStmt.{PlanStmt}
 use Rattle.plan_tree.specs.declared.plan.PlanStmt.TheVariants.{Block as PlanBlock}
 use Rattle.plan_tree.specs.declared.part.Item.{Item}
@@ -21,9 +23,13 @@ owner_of plan port = slice_index plan.owner port
 abbrev pub is_own : Plan → ℕ → Event → Bool
 is_own plan k e = nat_eq (owner_of plan e.port) k
 
+-- what a controller has of an event, by its deed
+abbrev pub deed_items : Plan → ℕ → Event → Deed → List Item
+deed_items plan k e (Pulse f w) = if is_own plan k e then Own e ∷ [] else []
+
 -- what a controller does in a block
 abbrev pub items_of : Plan → ℕ → List Event → List Item
-items_of plan k events = map Own (filter (is_own plan k) events)
+items_of plan k events = flat_map (λ e. deed_items plan k e e.act) events
 
 -- a block with what is kept of it, or a wait of its length where nothing is
 abbrev pub block_or_wait : ℕ → List Item → PartStmt

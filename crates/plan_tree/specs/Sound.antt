@@ -23,13 +23,9 @@ use Rattle.plan_tree.specs.Deeds.{plays}
 abbrev pub weight_in : ℕ → PlanStmt → ℕ
 weight_in budget (Block b) = 1 + length b.events
 
--- how much statements weigh
-abbrev pub weight_all : ℕ → List PlanStmt → ℕ
-weight_all budget body = sum (map (weight_in budget) body)
-
 -- how much a plan weighs
 abbrev pub weight_of : Plan → ℕ
-weight_of plan = weight_all plan.budget plan.body
+weight_of plan = sum (map (weight_in plan.budget) plan.body)
 
 -- the order of an offset and a port
 abbrev pub start_cmp : ℕ × ℕ → ℕ × ℕ → Ordering
@@ -59,9 +55,21 @@ pub record IsSoundBlock (plan : Plan) (b : Block-) : Type 0 where
   pub order : IsSortedByKey start_key start_cmp b.events
   pub apart : IsDistinct same_start (filter (λ e. plays e.act) b.events)
 
--- A statement is sound, which stands in a loop or in none.
+-- what a sound plan owes for a statement
+pub data Obligation : Type 0 where
+  OfBlock : (block : Block-) → Obligation
+
+-- An obligation is met.
+abbrev pub IsMet : Plan → Obligation → Type 0
+IsMet plan (OfBlock b) = IsSoundBlock plan b
+
+-- the obligations of a statement, which stands in a loop or in none
+abbrev pub owed_by : Bool → PlanStmt → List Obligation
+owed_by in_loop (Block b) = OfBlock b ∷ []
+
+-- A statement is sound that stands in a loop or in none: each of its obligations is met.
 abbrev pub IsSoundStmt : Plan → Bool → PlanStmt → Type 0
-IsSoundStmt plan in_loop (Block b) = IsSoundBlock plan b
+IsSoundStmt plan in_loop stmt = All (IsMet plan) (owed_by in_loop stmt)
 
 -- The variables from this one on are those of a value of this type: a register's are bits.
 abbrev pub HasVars : List Ty → ℕ → Kind → ℕ → Type 0

@@ -11,3 +11,5 @@ pub mod SpelledLemmas
 pub mod SpelledWords
 pub mod StatementLemmas
 pub mod FaultLemmas
+pub mod OrderLemmas
+pub mod OnceLemmas

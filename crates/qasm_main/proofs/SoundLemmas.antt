@@ -1,6 +1,6 @@
 -- A plan of pulses on the built-in machine is sound.
 use Rattle.std.proofs.Common.{◌≡◌, ◌<◌, ◌≤◌, [], List, ℕ, Bool, true, false, All, length, zero, suc, refl, sym, ap, subst, lit<, arith}
-use Rattle.std.specs.Prelude.{IsSomeAnd, slice_get}
+use Rattle.std.specs.Prelude.{IsSomeAnd, map, slice_get, sum}
 use Rattle.std.proofs.lemmas.List.Elements.{All-nil, All-cons, All-from_recursion, All-weaker}
 use Rattle.std.specs.List.Sorted.{IsPermutation}
 use Rattle.std.proofs.lemmas.List.Sorted.{All-permutation, length_permutation}
@@ -12,7 +12,7 @@ use Rattle.plan_tree.specs.declared.plan.Deed.{Deed}
 use Rattle.plan_tree.specs.declared.plan.Event.{Event}
 use Rattle.plan_tree.specs.declared.plan.PlanStmt.{PlanStmt}
 use Rattle.plan_tree.specs.declared.plan.PlanStmt.TheVariants.{Block}
-use Rattle.plan_tree.specs.Sound.{HasVars, IsSound, IsSoundBlock, IsSoundDeed, IsSoundEvent, IsSoundStmt, same_start, weight_all}
+use Rattle.plan_tree.specs.Sound.{HasVars, IsMet, IsSound, IsSoundBlock, IsSoundDeed, IsSoundEvent, IsSoundStmt, OfBlock, same_start, weight_in}
 use Rattle.plan_tree.specs.Laws.{PlaysStayApart}
 use Rattle.box_schedule.specs.Placement.{IsAdmissible, length_of, longest, starts_of}
 use Rattle.qasm_main.specs.declared.front.statement.LocatedStatement.{LocatedStatement}
@@ -71,6 +71,10 @@ sound_block stay_apart statements plan b planned framed owned block =
           (pulses_apart statements starts planned.formed planned.admissible.apart));
     }
 
+-- how much statements weigh
+abbrev weight_all : ℕ → List PlanStmt → ℕ
+weight_all budget body = sum (map (weight_in budget) body)
+
 sound_body : PlaysStayApart → (statements : List LocatedStatement) (plan : Plan) (n : ℕ) (body : List PlanStmt) (left_out : Bool) → ArePlanned statements → plan.frames ≡ built_in.frames → plan.owner ≡ owners_of built_in.ports
     → IsBodyBy known left_out statements body → All (IsSoundStmt plan false) body × (weight_all n body ≤ 1048576)
 sound_body stay_apart statements plan n body true planned framed owned is =
@@ -78,7 +82,8 @@ sound_body stay_apart statements plan n body true planned framed owned is =
 sound_body stay_apart statements plan n body false planned framed owned (b, is, block) =
     let as_many : length b.events ≡ length (plain_of statements) = length_permutation _ _ (moved statements b planned block) in
     subst (λ (all : List PlanStmt). All (IsSoundStmt plan false) all × (weight_all n all ≤ 1048576)) (sym is) (
-      All-cons (IsSoundStmt plan false) (Block b) [] (sound_block stay_apart statements plan b planned framed owned block) (All-nil (IsSoundStmt plan false)),
+      All-cons (IsSoundStmt plan false) (Block b) []
+          (All-cons (IsMet plan) (OfBlock b) [] (sound_block stay_apart statements plan b planned framed owned block) (All-nil (IsMet plan))) (All-nil (IsSoundStmt plan false)),
       omega (arith, as_many, planned.few, length-plain_from statements (starts_of (ops_of known statements))),
     )
 

@@ -3,6 +3,7 @@
 #![tactic(auto)]
 
 mod front;
+mod laws;
 mod run;
 mod telling;
 #[cfg(test)]
