@@ -103,3 +103,7 @@ goes-then {a} {b} {d} {p} {q} {r} {xs} {ys} first second = record { on = λ star
 -- the same text, spelled otherwise
 pub goes-as : {a b : SinkState} {p q : Waiting} {xs ys : List ℕ} → GoesOn a p b q xs → xs ≡ ys → GoesOn a p b q ys
 goes-as {a} {b} {p} {q} first e = subst (GoesOn a p b q) e first
+
+-- a text that goes on from an empty page is all that was put since then
+pub at-end : (start now : SinkState) (page w : Waiting) (text : List ℕ) → page ≡ record { bytes = []; failed = false } → GoesOn start page now w text → IsAt start now w text
+at-end start now page w text empty goes = goes.on start [] (subst (λ p. IsAt start start p []) (sym empty) (put-none start []))

@@ -1,5 +1,6 @@
 pub mod Words
 pub mod Tokens
+pub mod Trees
 pub mod Refusals
 pub mod Output
 pub mod Answer

@@ -2,11 +2,11 @@
 use Rattle.std.specs.Prelude.{List, ℕ, [], ◌∷◌, Bool, ◌&&◌, not, codes, Option, Some, None, option_map, if◌then◌else◌}
 use Rattle.std.specs.Str.{bytes_eq}
 use Rattle.qasm_dump.specs.declared.output.Pass.{Pass}
-use Rattle.qasm_dump.specs.declared.output.Pass.TheVariants.{Tokens}
+use Rattle.qasm_dump.specs.declared.output.Pass.TheVariants.{Tokens, Tree}
 
 -- the pass that a word asks for
 abbrev pub pass_of : List ℕ → Option Pass
-pass_of word = if bytes_eq word (codes "tokens") then Some Tokens else None
+pass_of word = if bytes_eq word (codes "tokens") then Some Tokens else (if bytes_eq word (codes "tree") then Some Tree else None)
 
 -- whether a word names a file: it is neither `-` nor empty
 abbrev pub is_file : List ℕ → Bool
@@ -26,4 +26,4 @@ call_of (word ∷ file ∷ more ∷ rest) = None
 
 -- the line that all other words are answered
 abbrev pub usage : List ℕ
-usage = codes "usage: tokens F\n"
+usage = codes "usage: tokens F | tree F\n"

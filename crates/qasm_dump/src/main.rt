@@ -3,11 +3,15 @@
 
 mod lexed;
 mod output;
+mod parsed;
+mod signs;
 #[cfg(test)]
 mod tests;
 mod tokens;
 mod top;
+mod trees;
 mod words;
+mod writing;
 
 use outside::{FileShelf, StreamSink};
 use std::alloc::Global;

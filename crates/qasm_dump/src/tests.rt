@@ -50,7 +50,7 @@ const CALLS: [Call; 6] = [
         fails: &[],
         room: 1_000,
         status: 2,
-        text: b"usage: tokens F\n",
+        text: b"usage: tokens F | tree F\n",
     },
     Call {
         words: &["tokens", "F"],

@@ -38,7 +38,7 @@ fn put_frac<K: Sink>(page: &mut TextBuffer, sink: &mut K, value: Frac)
 }
 
 /// The letters of a unit.
-fn unit_text(unit: Unit) -> &'static [u8]
+pub fn unit_text(unit: Unit) -> &'static [u8]
     ensures { result.now ≡ unit_text unit }
 {
     match unit {

@@ -20,7 +20,7 @@ const FILE_TOO_LONG: u16 = 10;
 /// The most bytes of a file.
 pub const LONGEST_FILE: u32 = 1_048_576;
 
-const USAGE: &[u8] = b"usage: tokens F\n";
+const USAGE: &[u8] = b"usage: tokens F | tree F\n";
 
 /// The status of a text that was put, which a fault of the sink replaces.
 fn status_of(written: Result<(), PutFailed>, status: u8) -> u8

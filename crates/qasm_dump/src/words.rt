@@ -9,6 +9,7 @@ fn pass_of(word: &str) -> Option<Pass>
 {
     match word {
         "tokens" => Some(Pass::Tokens),
+        "tree" => Some(Pass::Tree),
         _ => None,
     }
 }

@@ -1,7 +1,6 @@
 -- What a source is compiled to, by what it is read as.
-use Rattle.std.proofs.Common.{◌≡◌, ℕ, List, [], ◌∷◌, All, inl, inr, refl, sym, subst}
-use Rattle.std.specs.Prelude.{IsSome, IsSomeAnd, Result, Ok, Err, Some, slice_get}
-use Rattle.qs_values.specs.declared.refusal.Refusal.{Refusal}
+use Rattle.std.proofs.Common.{◌≡◌, ℕ, List, inl, inr, refl, sym, subst}
+use Rattle.std.specs.Prelude.{Result, Ok, Err, Some}
 use Rattle.qs_values.specs.declared.refusal.Halt.{Halt}
 use Rattle.qs_values.specs.declared.refusal.Halt.TheVariants.{Refused, Memory}
 use Rattle.plan_tree.specs.declared.plan.Plan.{Plan}
@@ -11,7 +10,7 @@ use Rattle.box_schedule.specs.declared.refusal.BoxRefusal.{BoxRefusal}
 use Rattle.box_schedule.specs.declared.refusal.BoxRefusal.TheVariants.{TickOut, DelayNegative, Memory as BoxMemory}
 use Rattle.box_schedule.specs.Codes.{code_of}
 use Rattle.box_schedule.specs.Placement.{Places}
-use Rattle.timeline_board.specs.Refused.{name_of, names}
+use Rattle.timeline_board.specs.Refused.{names}
 use Rattle.qasm_main.specs.declared.front.statement.LocatedStatement.{LocatedStatement}
 use Rattle.qasm_main.specs.front.Compile.{Compiles, CompilesStatements, IsNamedHalt}
 use Rattle.qasm_main.specs.front.Planned.{ops_of}

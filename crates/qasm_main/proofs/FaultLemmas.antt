@@ -1,7 +1,6 @@
 -- What the answer of a call says of faults.
 use Rattle.std.proofs.Common.{◌≡◌, ◌≢◌, ℕ, ◌<◌, List, [], ◌∷◌, ap, sym, ◌∙◌, refl, subst, arith, inl, inr}
 use Rattle.std.specs.Prelude.{IsSome}
-use Rattle.std.specs.List.{Contains}
 use Rattle.outside.specs.declared.shelf.Taken.{Taken}
 use Rattle.outside.specs.declared.shelf.Taken.TheVariants.{Whole, Longer}
 use Rattle.outside.specs.Faults.{Rose, most_faults}

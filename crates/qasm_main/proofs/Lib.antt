@@ -1,15 +1,11 @@
-pub mod Pages
 pub mod TextLemmas
 pub mod RunLemmas
 pub mod PlainLemmas
 pub mod OperationLemmas
 pub mod PulseLemmas
 pub mod SoundLemmas
+pub mod QubitLemmas
 pub mod ReaderLemmas
 pub mod CompileLemmas
-pub mod SpelledLemmas
-pub mod SpelledWords
-pub mod StatementLemmas
 pub mod FaultLemmas
-pub mod OrderLemmas
 pub mod OnceLemmas

@@ -4,7 +4,6 @@ use Rattle.std.specs.Prelude.{IsSomeAnd}
 use Rattle.qs_values.specs.declared.tape.Tape.{Tape}
 use Rattle.plan_tree.specs.declared.plan.Plan.{Plan}
 use Rattle.plan_tree.specs.Sound.{IsSound}
-use Rattle.qs_machine.specs.declared.machine.Machine.{Machine}
 use Rattle.controller_machine.specs.Ctl.{CtlState, ending_in, shown_of, tick_in}
 use Rattle.controller_machine.specs.Last.{IsLast}
 use Rattle.controller_core.specs.Core.{CoreState}

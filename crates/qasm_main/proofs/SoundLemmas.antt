@@ -19,9 +19,9 @@ use Rattle.qasm_main.specs.declared.front.statement.LocatedStatement.{LocatedSta
 use Rattle.qs_machine.specs.declared.machine.Machine.{Machine}
 use Rattle.qs_machine.specs.BuiltIn.{built_in}
 use Rattle.qasm_main.specs.front.Source.{most_statements}
-use Rattle.qasm_main.specs.front.Statement.{AreWellFormed, IsWellFormedAt}
+use Rattle.qasm_main.specs.front.Statement.{AreWellFormed}
 use Rattle.timeline_board.specs.Conditions.{HasNamesOf, HasWave}
-use Rattle.qasm_main.specs.front.Planned.{IsBlockOf, IsBodyBy, IsPlanOf, is_left_out, ops_of, owners_of, pulses_of}
+use Rattle.qasm_main.specs.front.Planned.{IsBlockOf, IsBodyBy, IsPlanOf, is_left_out, ops_of, owners_of}
 use Rattle.qasm_main.proofs.PlainLemmas.{known, plain_from, pulses-plain}
 use Rattle.qasm_main.proofs.PulseLemmas.{IsQubitPulse, qubit_pulses, length-plain_from, begin_before_end, pulses_apart, same_start_flips}
 

@@ -1,6 +1,5 @@
 pub mod Statement
 pub mod Source
-pub mod Spelled
 pub mod Refused
 pub mod Reads
 pub mod Gates

@@ -11,7 +11,6 @@ use qs_values::Halt;
 use std::alloc::Global;
 
 mod gates;
-mod laws;
 mod plans;
 mod reader;
 mod refusal;
@@ -24,10 +23,10 @@ use reader::read;
 ///
 /// # Errors
 ///
-/// `Halt::Refused` with the source's first refusal: from 101 to 106 of its lexemes; else 199 at the
-/// first token that begins no statement that is built, or at the statement that is one too many;
-/// else 203 at the first statement, where the block lasts longer than 2^40 ticks. `Halt::Memory`
-/// where out of memory.
+/// `Halt::Refused` with the source's first refusal: from 101 to 106 of its lexemes; else from 111 to
+/// 114 of its tokens; else 199 at the first statement that isn't built, or that is one too many; else
+/// 203 at the first statement, where the block lasts longer than 2^40 ticks. `Halt::Memory` where out
+/// of memory.
 pub fn compile(alloc: Global, source: &[u8], machine: &Machine) -> Result<Plan, Halt>
     requires machine { machine.now ≡ built_in }
     requires short { length source.now ≤ longest_file_bytes }

@@ -69,7 +69,8 @@ pub fn plain_top<H: Shelf, K: Sink>(
 /// Tells an outcome, and hands back its core.
 fn tell<K: Sink>(outcome: Outcome, sink: &mut K) -> Plain
     requires { IsTellable outcome }
-    ensures finishes { Finishes (K.state sink.old) (K.state sink.new) (reply_of outcome.entry) result.status }
+    ensures finishes { Finishes (K.state sink.old) (K.state sink.new) (reply_of outcome.entry)
+        result.status }
     ensures core { result.core ≡ core_of outcome.entry }
 {
     let status = match put_text(&outcome, sink) {

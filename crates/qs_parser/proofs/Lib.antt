@@ -1,3 +1,10 @@
+pub mod Exits
+pub mod Deeper
+pub mod ItemByItem
+pub mod ModifierByModifier
+pub mod Arguments
+pub mod OperatorSteps
+pub mod StatementByStatement
 pub mod TokenPieces
 pub mod Spent
 pub mod Featured
@@ -27,6 +34,7 @@ pub mod CompleteStmtNames
 pub mod CompleteStmtCalls
 pub mod CompleteStmtSimple
 pub mod CompleteStmtCases
+pub mod LacksElse
 pub mod CompleteStmtFirst
 pub mod CompleteStmtAssign
 pub mod CompleteBegins
@@ -47,4 +55,5 @@ pub mod CompleteCalibrations
 pub mod CompleteDefcals
 pub mod CompleteStatement
 pub mod CompleteOnce
+pub mod SourceRead
 pub mod CompleteParse

@@ -1,17 +1,13 @@
 -- The order of entries by tick and then by port.
-use Rattle.std.proofs.Common.{◌≡◌, ℕ, true, false, refl, arith}
-use Rattle.std.specs.Cmp.{IsStrictWeakOrder, IsTotalOrder}
-use Rattle.std.proofs.lemmas.Cmp.{nat_cmp_total, on_total, then_total}
+use Rattle.std.proofs.Common.{◌≡◌, true, false, refl, arith}
+use Rattle.std.specs.Cmp.{IsStrictWeakOrder}
 use Rattle.std.specs.List.Sorted.{ties}
 use Rattle.std.proofs.lemmas.Bool.Decides.{nat_tests}
 use Rattle.std.proofs.lemmas.List.Sorted.{ranks_by}
-use Rattle.plan_tree.specs.Sound.{start_cmp}
+use Rattle.plan_tree.proofs.StartLemmas.{start-total}
 use Rattle.controller_machine.specs.declared.ctl.Played.{Played}
 use Rattle.controller_machine.specs.Log.{play_key}
 use Rattle.timeline_board.specs.Order.{IsNotBefore, comes_before}
-
-start-total : IsTotalOrder start_cmp
-start-total = then_total (on_total (λ (x : ℕ × ℕ). x.0) nat_cmp_total) (on_total (λ (x : ℕ × ℕ). x.1) nat_cmp_total)
 
 pub before-ranks : IsStrictWeakOrder comes_before
 before-ranks = ranks_by start-total play_key

@@ -1,4 +1,3 @@
-pub mod Pages
 pub mod Keys
 pub mod Sorts
 pub mod Lefts

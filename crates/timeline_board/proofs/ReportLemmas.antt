@@ -1,29 +1,23 @@
 -- The merge of all planned logs is the timeline of the undivided run, and its report is that run's.
-use Rattle.std.proofs.Common.{◌≡◌, ℕ, ◌+◌, ◌<◌, List, true, false, refl, ap, sym, subst, ◌∙◌, arith}
-use Rattle.std.specs.Prelude.{All, IsTrue, Some, nat_lt, ◌&&◌, slice_get, length, Bool}
+use Rattle.std.proofs.Common.{◌≡◌, ℕ, ◌+◌, ◌<◌, List, true, refl, sym, subst, arith}
+use Rattle.std.specs.Prelude.{All, nat_lt, ◌&&◌, length, Bool}
 use Rattle.std.specs.List.Sorted.{ties}
 use Rattle.std.specs.List.{range_with_len}
 use Rattle.std.proofs.lemmas.Bool.Decides.{nat_tests}
 use Rattle.std.proofs.lemmas.List.Elements.{All-map, All-weaker}
-use Rattle.qs_values.specs.declared.tape.Tape.{Tape}
-use Rattle.plan_tree.specs.declared.plan.Plan.{Plan}
-use Rattle.plan_tree.specs.declared.plan.Event.{Event}
 use Rattle.plan_tree.specs.declared.plan.Deed.{Deed}
 use Rattle.plan_tree.specs.declared.plan.Deed.TheVariants.{Pulse}
 use Rattle.plan_tree.specs.declared.plan.PlanStmt.{PlanStmt}
 use Rattle.plan_tree.specs.declared.plan.PlanStmt.TheVariants.{Block}
 use Rattle.plan_tree.specs.Acts.{planned_acts}
 use Rattle.plan_tree.specs.Run.{run_of}
-use Rattle.plan_tree.specs.Sound.{IsSound, start_cmp}
 use Rattle.qs_machine.specs.declared.machine.Machine.{Machine}
 use Rattle.controller_machine.specs.declared.ctl.Played.{Played}
-use Rattle.controller_machine.specs.Alone.{Shown}
 use Rattle.controller_machine.specs.Laws.{LogsStandInOrder, PassesDeed, PassesStmt, PlaysAreEvents}
-use Rattle.controller_machine.specs.Last.{IsLast}
-use Rattle.controller_machine.specs.Log.{log_of, logs_planned, play_key, timeline_of}
-use Rattle.timeline_board.specs.Conditions.{HasNames, HasNamesOf, HasWave, IsNamed, LogsHaveNames}
-use Rattle.timeline_board.specs.Order.{IsInOrder, IsMerge, comes_before, in_time_order}
-use Rattle.timeline_board.specs.Report.{MergeIsTimeline, ReportIsRun, report_of, report_text}
+use Rattle.controller_machine.specs.Log.{log_of, logs_planned, timeline_of}
+use Rattle.timeline_board.specs.Conditions.{HasNamesOf, HasWave, IsNamed, LogsHaveNames}
+use Rattle.timeline_board.specs.Order.{IsInOrder, comes_before}
+use Rattle.timeline_board.specs.Report.{MergeIsTimeline, ReportIsRun}
 use Rattle.timeline_board.proofs.Keys.{ties-port}
 use Rattle.timeline_board.proofs.Merges.{merge-orders}
 use Rattle.timeline_board.proofs.Shares.{made-at, port-share}

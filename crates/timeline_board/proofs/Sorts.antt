@@ -1,8 +1,11 @@
 -- Lists in order, with what ties as it stood, are one list.
-use Rattle.std.proofs.Common.{◌≡◌, List, [], ◌∷◌, Bool, true, false, true≢false, cond, filter, refl, sym, ap, ◌∙◌}
-use Rattle.std.specs.Prelude.{◌&&◌, not}
+use Rattle.std.proofs.Common.{◌≡◌, List, [], ◌∷◌, Bool, true, false, true≢false, cond, filter, refl, sym, ap, ◌∙◌, suc, arith}
+use Rattle.std.specs.Prelude.{All, ◌&&◌, not}
 use Rattle.std.specs.Cmp.{IsStrictWeakOrder}
-use Rattle.std.specs.List.Sorted.{ties}
+use Rattle.std.specs.List.{AllPairs}
+use Rattle.std.specs.List.Sorted.{IsSortedBy, ties}
+use Rattle.std.proofs.lemmas.List.Elements.{All-head, All-tail}
+use Rattle.std.proofs.lemmas.List.Sorted.{sorted_far}
 
 module _ {X : Type 0} (lt : X → X → Bool) (ranks : IsStrictWeakOrder lt) where
   -- no element of a list comes before this one
@@ -98,3 +101,19 @@ module _ {X : Type 0} (lt : X → X → Bool) (ranks : IsStrictWeakOrder lt) whe
       let low : lt q x ≡ false = ties-second x q (lt x q) (lt q x) refl refl one in
       let high : lt x p ≡ false = ties-first x p (lt x p) (lt p x) refl refl other in
       sym (ranks.chain q x p low high) ∙ before
+
+  front-all : (x : X) (xs : List X) → All (λ y. lt y x ≡ false) xs → IsFront x xs
+  front-all x [] all = tt
+  front-all x (y ∷ ys) all = (All-head (λ z. lt z x ≡ false) y ys all, front-all x ys (All-tail (λ z. lt z x ≡ false) y ys all))
+
+  rises-pairs : (xs : List X) → AllPairs (λ x y. lt y x ≡ false) xs → Rises xs
+  rises-pairs [] pairs = tt
+  rises-pairs (x ∷ xs) pairs =
+      (front-all x xs (λ k d within. pairs 0 (suc k) d (omega arith) (omega arith)), rises-pairs xs (λ i j d before within. pairs (suc i) (suc j) d (omega arith) (omega arith)))
+
+  rises-sorted : (xs : List X) → IsSortedBy lt xs → Rises xs
+  rises-sorted xs sorted = rises-pairs xs (λ i j d before within. sorted_far lt ranks xs sorted i j d (omega arith) within)
+
+  -- Sorted lists whose classes are the same are the same.
+  pub sorted-once : (xs ys : List X) → IsSortedBy lt xs → IsSortedBy lt ys → ((z : X) → class z xs ≡ class z ys) → xs ≡ ys
+  sorted-once xs ys sorted sorted' same = rises-once xs ys (rises-sorted xs sorted) (rises-sorted ys sorted') same

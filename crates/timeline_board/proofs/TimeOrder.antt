@@ -1,13 +1,12 @@
 -- Entries that are put in order: all of them, in order, and those that tie as they stood.
-use Rattle.std.proofs.Common.{◌≡◌, List, [], ◌∷◌, Bool, true, false, true≢false, cond, filter, zero, suc, refl, sym, ap, ◌∙◌, subst, arith}
-use Rattle.std.specs.Prelude.{◌<◌}
+use Rattle.std.proofs.Common.{◌≡◌, List, [], ◌∷◌, Bool, true, false, true≢false, cond, refl, sym, ap, ◌∙◌, subst, arith}
 use Rattle.std.specs.List.Sorted.{IsPermutation, ties}
 use Rattle.std.proofs.lemmas.List.Sorted.{IsPermutation-cons, IsPermutation-middle, IsPermutation-refl, IsPermutation-trans}
 use Rattle.controller_machine.specs.declared.ctl.Played.{Played}
-use Rattle.timeline_board.specs.Order.{IsInOrder, IsNotBefore, IsOrdered, TimeOrderOrders, comes_before, in_time_order, put_in}
+use Rattle.timeline_board.specs.Order.{IsInOrder, IsNotBefore, TimeOrderOrders, comes_before, in_time_order, put_in}
 use Rattle.timeline_board.proofs.Keys.{before-ranks}
 use Rattle.timeline_board.proofs.Merges.{order-cons, order-second, order-tail}
-use Rattle.timeline_board.proofs.Sorts.{IsFront, Rises, class, front-further, kept, left-out, rises-once, ties-level}
+use Rattle.timeline_board.proofs.Sorts.{IsFront, Rises, class, front-further, rises-once, ties-level}
 
 abbrev Front : Played → List Played → Type 0
 Front p ps = IsFront comes_before before-ranks p ps

@@ -1,126 +1,130 @@
--- The statements that are built so far, `x`, `cx`, `delay` and `barrier` on three qubits, as tokens (a small part of OpenQASM 3.0).
-use Rattle.std.specs.Prelude.{ℕ, ◌+◌, ◌-◌, ◌*◌, List, [], ◌∷◌, ◌++◌, ◌&&◌, length, if◌then◌else◌, nat_eq, nat_le, Option, Some, None, codes, zero, suc}
-use Rattle.std.specs.Char.{is_ascii_digit}
+-- The statements that are built so far, `x`, `cx`, `delay` and `barrier` on three qubits, as trees (a small part of OpenQASM 3.0).
+use Rattle.std.specs.Prelude.{ℕ, pos, unsigned_abs, List, [], ◌∷◌, Bool, ◌&&◌, length, if◌then◌else◌, nat_eq, nat_le, nat_lt, Option, Some, None, codes, zero, suc}
+use Rattle.std.specs.Int.Signed.{le_z}
+use Rattle.std.specs.Option.{option_map}
+use Rattle.std.specs.Ordering.{int_eq}
 use Rattle.std.specs.Str.{bytes_eq}
+use Rattle.qs_values.specs.declared.number.Frac.{Frac}
 use Rattle.qs_values.specs.declared.span.Span.{Span}
-use Rattle.qs_lexer.specs.declared.token.Token.{Token}
+use Rattle.qs_lexer.specs.declared.token.Unit.{Unit as TimeUnit}
+use Rattle.qs_lexer.specs.declared.token.Unit.TheVariants.{Dt, Ns, Us, Ms, S}
+use Rattle.qs_tree.specs.declared.expr.Expr.{Expr}
+use Rattle.qs_tree.specs.declared.expr.ExprKind.{ExprKind, out-ExprKind}
+use Rattle.qs_tree.specs.declared.expr.TypeExpr.{TypeExpr}
+use Rattle.qs_tree.specs.declared.gate.Call.{Call, Call-F, out-Call}
+use Rattle.qs_tree.specs.declared.gate.Modifier.{Modifier}
+use Rattle.qs_tree.specs.declared.operand.Operand.{Operand, out-Operand}
+use Rattle.qs_tree.specs.declared.operand.Place.{Place}
+use Rattle.qs_tree.specs.declared.operand.Value.{Value}
+use Rattle.qs_tree.specs.declared.pulse.Item.{Item}
+use Rattle.qs_tree.specs.declared.pulse.Param.{Param}
+use Rattle.qs_tree.specs.declared.statement.Body.{Body}
+use Rattle.qs_tree.specs.declared.statement.Range.{Range}
+use Rattle.qs_tree.specs.declared.statement.Stmt.{Stmt}
+use Rattle.qs_tree.specs.declared.statement.StmtKind.{StmtKind, out-StmtKind}
+use Rattle.qs_tree.specs.declared.expr.ExprKind.TheOpen.{ExprKind-F, Operand-F, StmtKind-F}
+use Rattle.qs_tree.specs.declared.expr.ExprKind.TheOpen as layer
 use Rattle.qasm_main.specs.declared.front.statement.Statement.{Statement}
 use Rattle.qasm_main.specs.declared.front.statement.Statement.TheVariants.{X, Cx, Delay, Barrier}
 use Rattle.qasm_main.specs.declared.front.statement.LocatedStatement.{LocatedStatement}
 use Rattle.qasm_main.specs.front.Statement.{longest_delay_ticks}
 
--- a value at the front of tokens, and the tokens after it
-pub record Front (X : Type 0) : Type 0 where
-  pub value : X
-  pub rest : List Token
+-- the outermost layer of a tree, with the trees below it in their places
+abbrev pub Layer : (Type 0 → Type 0 → Type 0 → Type 0 → Type 0 → Type 0 → Type 0 → Type 0 → Type 0 → Type 0 → Type 0 → Type 0 → Type 0 → Type 0 → Type 0) → Type 0
+Layer F = F ExprKind Modifier Operand Value Item Param Body Range StmtKind Expr TypeExpr Call Place Stmt
 
--- the tokens after the first, where it has this text
-abbrev pub after : List ℕ → List Token → Option (List Token)
-after wanted [] = None
-after wanted (t ∷ ts) = if bytes_eq t.text wanted then Some ts else None
+-- whether a list has no element
+abbrev pub is_empty : {X : Type 0} → List X → Bool
+is_empty xs = nat_eq (length xs) 0
 
--- the qubit of a token, from 0 to 2
-abbrev pub qubit_of : List ℕ → Option ℕ
-qubit_of text = if bytes_eq text (codes "$0") then Some 0 else (if bytes_eq text (codes "$1") then Some 1 else (if bytes_eq text (codes "$2") then Some 2 else None))
+-- the physical qubit of an operand, from 0 to 2
+abbrev pub qubit_by : Layer Operand-F → Option ℕ
+qubit_by (layer.PhysicalQubit span number) = if nat_lt number 3 then Some number else None
+qubit_by (layer.Named place) = None
 
--- a number in decimal digits so far, how many there were, and the bytes after them
-pub record Digits : Type 0 where
-  pub number : ℕ
-  pub count : ℕ
-  pub rest : List ℕ
+unfoldable pub qubit_of : Operand → Option ℕ
+qubit_of operand = qubit_by (out-Operand operand)
 
--- the digits at the front, after those that were read
-abbrev pub digits_from : ℕ → ℕ → List ℕ → Digits
-digits_from number count [] = record { number = number; count = count; rest = [] }
-digits_from number count (b ∷ bs) =
-    if is_ascii_digit b then digits_from (10 * number + (b - 48)) (count + 1) bs else record { number = number; count = count; rest = b ∷ bs }
+-- the qubit of operands that are one
+unfoldable pub only_qubit : List Operand → Option ℕ
+only_qubit [] = None
+only_qubit (first ∷ others) = if is_empty others then qubit_of first else None
 
--- how many digits the number of a delay's ticks has at most
-abbrev pub most_digits : ℕ
-most_digits = 10
-
--- the time that digits are, where they are one to ten, and no longer than a delay may be, and `dt` alone stands after them
-abbrev pub time_by : Digits → Option ℕ
-time_by d = if nat_le 1 d.count && nat_le d.count most_digits && nat_le d.number longest_delay_ticks && bytes_eq d.rest (codes "dt") then Some d.number else None
-
--- the time of a token
-unfoldable pub time_of : List ℕ → Option ℕ
-time_of text = time_by (digits_from 0 0 text)
-
--- what a reading of texts makes of the first token
-abbrev pub first_by : {X : Type 0} → (List ℕ → Option X) → List Token → Option (Front X)
-first_by value_of [] = None
-first_by value_of (t ∷ ts) = elim (value_of t.text) [ None ↦ None | Some value ↦ Some (record { value = value; rest = ts }) ]
-
--- the qubit that comes next
-abbrev pub qubit_at : List Token → Option (Front ℕ)
-qubit_at ts = first_by qubit_of ts
-
--- the time that comes next
-abbrev pub time_at : List Token → Option (Front ℕ)
-time_at ts = first_by time_of ts
-
--- a statement, where `;` comes first
-abbrev pub before_semicolon : Statement → List Token → Option (Front Statement)
-before_semicolon statement ts = elim (after (codes ";") ts) [ None ↦ None | Some rest ↦ Some (record { value = statement; rest = rest }) ]
-
--- after `x`: a qubit
-unfoldable pub x_at : List Token → Option (Front Statement)
-x_at ts = elim (qubit_at ts) [ None ↦ None | Some q ↦ before_semicolon (X q.value) q.rest ]
-
--- the qubit that comes next after a comma
-unfoldable pub next_qubit_at : List Token → Option (Front ℕ)
-next_qubit_at ts = elim (after (codes ",") ts) [ None ↦ None | Some rest ↦ qubit_at rest ]
-
--- after `cx`: two different qubits with a comma between
-unfoldable pub cx_at : List Token → Option (Front Statement)
-cx_at ts = elim (qubit_at ts) [
+-- the two different qubits of operands that are two
+unfoldable pub qubit_pair : List Operand → Option (ℕ × ℕ)
+qubit_pair [] = None
+qubit_pair (first ∷ others) = elim (qubit_of first) [
   | None ↦ None
-  | Some a ↦ elim (next_qubit_at a.rest) [ None ↦ None | Some b ↦ if nat_eq a.value b.value then None else before_semicolon (Cx a.value b.value) b.rest ]
+  | Some a ↦ elim (only_qubit others) [ None ↦ None | Some b ↦ if nat_eq a b then None else Some (a, b) ]
 ]
 
--- after `delay`: `[`, a time, `]` and a qubit
-unfoldable pub delay_at : List Token → Option (Front Statement)
-delay_at ts = elim (after (codes "[") ts) [
+-- the qubits of operands, where each is one
+abbrev pub qubits_of : List Operand → Option (List ℕ)
+qubits_of [] = Some []
+qubits_of (first ∷ others) = elim (qubit_of first) [
   | None ↦ None
-  | Some inside ↦ elim (time_at inside) [
-    | None ↦ None
-    | Some t ↦ elim (after (codes "]") t.rest) [
-      | None ↦ None
-      | Some rest ↦ elim (qubit_at rest) [ None ↦ None | Some q ↦ before_semicolon (Delay t.value q.value) q.rest ]
-    ]
-  ]
+  | Some q ↦ elim (qubits_of others) [ None ↦ None | Some qs ↦ Some (q ∷ qs) ]
 ]
 
--- qubits after commas, as many as come, but at most n of them, after those before
-abbrev pub more_qubits : ℕ → List ℕ → List Token → Front (List ℕ)
-more_qubits zero before ts = record { value = before; rest = ts }
-more_qubits (suc n) before ts = elim (next_qubit_at ts) [
-  | None ↦ record { value = before; rest = ts }
-  | Some q ↦ more_qubits n (before ++ q.value ∷ []) q.rest
+-- the ticks that a number of `dt` is, where it is whole and no longer than a delay may be
+abbrev pub ticks_of : Frac → Option ℕ
+ticks_of value =
+    if int_eq value.den (pos 1) && le_z (pos 0) value.num && nat_le (unsigned_abs value.num) longest_delay_ticks then Some (unsigned_abs value.num) else None
+
+-- the ticks that a number of a unit is, where that unit is `dt`
+abbrev pub ticks_in : Frac → TimeUnit → Option ℕ
+ticks_in value Dt = ticks_of value
+ticks_in value Ns = None
+ticks_in value Us = None
+ticks_in value Ms = None
+ticks_in value S = None
+
+-- the ticks of an expression that is a time
+abbrev pub time_by : Layer ExprKind-F → Option ℕ
+time_by (layer.Time value unit) = ticks_in value unit
+time_by other = None
+
+unfoldable pub time_of : Expr → Option ℕ
+time_of e = time_by (out-ExprKind e.kind)
+
+-- what a gate of this name does to operands
+unfoldable pub gate_of : List ℕ → List Operand → Option Statement
+gate_of name operands =
+    if bytes_eq name (codes "x") then option_map X (only_qubit operands)
+    else (if bytes_eq name (codes "cx") then option_map (λ pair. Cx pair.0 pair.1) (qubit_pair operands) else None)
+
+-- the statement of a call without modifiers and parameters
+abbrev pub call_by : Layer Call-F → Option Statement
+call_by call = elim call.args [
+  | None ↦ if is_empty call.modifiers then gate_of call.name.name call.operands else None
+  | Some args ↦ None
 ]
 
--- after `barrier`: one or more qubits with commas between
-unfoldable pub barrier_at : List Token → Option (Front Statement)
-barrier_at ts = elim (qubit_at ts) [
+unfoldable pub call_of : Call → Option Statement
+call_of call = call_by (out-Call call)
+
+-- a delay of a time on one qubit
+unfoldable pub delay_of : Expr → List Operand → Option Statement
+delay_of time operands = elim (time_of time) [
   | None ↦ None
-  | Some q ↦ let qubits = more_qubits (length q.rest) (q.value ∷ []) q.rest in before_semicolon (Barrier qubits.value) qubits.rest
+  | Some ticks ↦ option_map (λ q. Delay ticks q) (only_qubit operands)
 ]
 
--- what a statement with this first word and these tokens after it is
-abbrev pub statement_by : List ℕ → List Token → Option (Front Statement)
-statement_by word ts =
-    if bytes_eq word (codes "x") then x_at ts
-    else (if bytes_eq word (codes "cx") then cx_at ts
-    else (if bytes_eq word (codes "delay") then delay_at ts
-    else (if bytes_eq word (codes "barrier") then barrier_at ts else None)))
+-- a barrier on one or more qubits
+unfoldable pub barrier_of : List Operand → Option Statement
+barrier_of operands = if is_empty operands then None else option_map Barrier (qubits_of operands)
 
--- the statement that comes first
-unfoldable pub statement_at : List Token → Option (Front Statement)
-statement_at [] = None
-statement_at (t ∷ ts) = statement_by t.text ts
+-- the statement that a statement of a tree is, where it is one that is built
+abbrev pub statement_by : Layer StmtKind-F → Option Statement
+statement_by (layer.GateCall call) = call_of call
+statement_by (layer.Delay time operands) = delay_of time operands
+statement_by (layer.Barrier operands) = barrier_of operands
+statement_by other = None
 
--- what tokens are: statements at their places alone, or something else begins at a place
+unfoldable pub statement_of : Stmt → Option Statement
+statement_of stmt = statement_by (out-StmtKind stmt.kind)
+
+-- what the statements of a tree are: statements at their places alone, or one at a place that isn't built
 pub data Reading : Type 0 where
   Built : (statements : List LocatedStatement) → Reading
   NotBuilt : (place : Span) → Reading
@@ -130,13 +134,13 @@ abbrev pub with_statement : LocatedStatement → Reading → Reading
 with_statement s (Built statements) = Built (s ∷ statements)
 with_statement s (NotBuilt place) = NotBuilt place
 
--- what tokens of at most so many statements are: nothing more, a statement where one more is allowed, or something else, at its first token
-abbrev pub reading_of : ℕ → List Token → Reading
+-- what statements of a tree are, where so many may be: nothing more, one that is built where one more is allowed, or another one, at its place
+abbrev pub reading_of : ℕ → List Stmt → Reading
 reading_of n [] = Built []
-reading_of zero (t ∷ ts) = NotBuilt t.span
-reading_of (suc n) (t ∷ ts) = elim (statement_at (t ∷ ts)) [
-  | None ↦ NotBuilt t.span
-  | Some s ↦ with_statement (record { span = t.span; statement = s.value }) (reading_of n s.rest)
+reading_of zero (s ∷ ss) = NotBuilt s.span
+reading_of (suc n) (s ∷ ss) = elim (statement_of s) [
+  | None ↦ NotBuilt s.span
+  | Some b ↦ with_statement (record { span = s.span; statement = b }) (reading_of n ss)
 ]
 
 -- how many statements a source has at most

@@ -98,7 +98,8 @@ fn put_pulses(
     start: u64,
     statement: &Statement,
 ) -> Result<(), Memory>
-    ensures { OnOk result (events.new.items ≡ events.old.items ++ pulses_by gates.now start statement.now) }
+    ensures { OnOk result (events.new.items
+        ≡ events.old.items ++ pulses_by gates.now start statement.now) }
 {
     match statement {
         Statement::X(qubit) => events.push(pulse_at(gates, start, *qubit, gates.x.wave))?,
@@ -118,7 +119,8 @@ fn pulses_from(
     statements: &[LocatedStatement],
     starts: &[u64],
 ) -> Result<Vec<Event>, Memory>
-    ensures { IfOk result (λ events. events.items ≡ pulses_from gates.now statements.now starts.now) }
+    ensures { IfOk result (λ events.
+        events.items ≡ pulses_from gates.now statements.now starts.now) }
 {
     let mut events = Vec::new(alloc);
     for (located, start) in statements.iter().zip(starts) {
@@ -131,7 +133,8 @@ fn pulses_from(
 fn block_of(mut events: Vec<Event>, length: u64) -> Result<Block, Memory>
     ensures events { IfOk result (λ block. IsPermutation events.items block.events) }
     ensures order { IfOk result (λ block. IsSortedByKey start_key start_cmp block.events) }
-    ensures stable { IfOk result (λ block. IsStableByKey start_key start_cmp events.items block.events) }
+    ensures stable { IfOk result (λ block.
+        IsStableByKey start_key start_cmp events.items block.events) }
     ensures ticks { IfOk result (λ block. block.length ≡ length) }
 {
     events.sort_by_key(|event| (event.offset, event.port))?;
@@ -150,7 +153,8 @@ fn body_of(
 ) -> Result<List<PlanStmt>, Memory>
     requires starts { placed.now.starts ≡ starts_of (ops_of gates.now statements.now) }
     requires ticks { placed.now.length ≡ length_of (ops_of gates.now statements.now) }
-    ensures { IfOk result (IsBodyBy gates.now (is_left_out gates.now statements.now) statements.now) }
+    ensures { IfOk result (IsBodyBy gates.now
+        (is_left_out gates.now statements.now) statements.now) }
 {
     let events = pulses_from(alloc, gates, statements, placed.starts.as_slice())?;
     let mut body = List::new(alloc);

@@ -1,268 +1,280 @@
-ghost use Rattle.std.specs.Prelude.{◌≡◌, ◌<◌, ◌≤◌, All, IfOk, IfSome, length, option_map};
-ghost use Rattle.qasm_main.specs.front.Source.{after, before_semicolon, qubit_of, time_of, qubit_at, time_at, next_qubit_at, x_at, cx_at, delay_at, more_qubits, barrier_at, statement_by, statement_at};
+ghost use Rattle.std.specs.Prelude.{◌≡◌, ◌<◌, ◌≤◌, ◌≢◌, All, IfOk, IfSome, length, option_map};
+ghost use Rattle.qasm_main.specs.front.Source.{barrier_of, call_of, delay_of, gate_of, most_statements, only_qubit, qubit_of, qubit_pair, qubits_of, statement_of, ticks_in, ticks_of, time_of};
 ghost use Rattle.qasm_main.specs.Texts.{longest_file_bytes};
 ghost use Rattle.qasm_main.specs.front.Statement.{AreWellFormed, IsWellFormed, longest_delay_ticks};
-ghost use Rattle.qasm_main.specs.front.Source.{most_statements};
-ghost use Rattle.qasm_main.specs.front.Reads.{Reads, ReadsTokens};
+ghost use Rattle.qasm_main.specs.front.Reads.{Reads, ReadsStatements};
 
-use crate::front::refusal::{halt_of, refusal_at};
+use crate::front::refusal::{halt_of, malformed_halt, refusal_at};
 use crate::front::statement::{LocatedStatement, Statement};
-use qs_lexer::{Token, lex};
-use qs_values::{Halt, List, Span};
+use qs_lexer::{Unit, lex};
+use qs_parser::parse;
+use qs_tree::{Call, Expr, ExprKind, Operand, Stmt, StmtKind};
+use qs_values::{Frac, Halt, List};
 use std::alloc::{AllocError, Global};
 
 /// The code of what is OpenQASM, but isn't built yet.
 const NOT_BUILT: u16 = 199;
 
 /// The greatest number of ticks of a delay.
-const LONGEST_DELAY_TICKS: u64 = 4_294_967_296;
+const LONGEST_DELAY_TICKS: u128 = 4_294_967_296;
 
 /// How many statements a source has at most.
 const MOST_STATEMENTS: u32 = 65_536;
 
-/// How many digits the number of a delay's ticks has at most.
-const MOST_DIGITS: u32 = 10;
-
-/// The tokens after a word or a sign, where it comes next.
-fn after<'a>(tokens: &'a [Token], wanted: &str) -> Option<&'a [Token]>
-    ensures value { option_map (λ r. r.now) result ≡ after wanted.now tokens.now }
-    ensures within { IfSome result (λ r. length r.now < length tokens.now) }
+/// The physical qubit of an operand, from 0 to 2.
+#[tactic(auto, unfolding(crate::specs::front::Source::qubit_of))]
+fn qubit_of(operand: &Operand) -> Option<u8>
+    ensures value { result ≡ qubit_of operand.now }
+    ensures three { IfSome result (λ q. q < 3) }
 {
-    let (token, rest) = tokens.split_first()?;
-    if token.text.as_str() == wanted {
-        Some(rest)
+    match operand {
+        Operand::PhysicalQubit(_, number) => {
+            if *number < 3 {
+                Some(*number as u8)
+            } else {
+                None
+            }
+        }
+        Operand::Named(_) => None,
+    }
+}
+
+/// The qubit of operands that are one.
+#[tactic(auto, unfolding(crate::specs::front::Source::only_qubit))]
+fn only_qubit(operands: &[Operand]) -> Option<u8>
+    ensures value { result ≡ only_qubit operands.now }
+    ensures three { IfSome result (λ q. q < 3) }
+{
+    let (first, others) = operands.split_first()?;
+    if others.is_empty() {
+        qubit_of(first)
     } else {
         None
     }
 }
 
-/// The qubit of a token's text.
-fn qubit_of(text: &str) -> Option<u8>
-    ensures value { result ≡ qubit_of text.now }
-    ensures three { IfSome result (λ q. q < 3) }
+/// The two different qubits of operands that are two.
+#[tactic(auto, unfolding(crate::specs::front::Source::qubit_pair))]
+fn qubit_pair(operands: &[Operand]) -> Option<(u8, u8)>
+    ensures value { result ≡ qubit_pair operands.now }
+    ensures first { IfSome result (λ pair. pair.0 < 3) }
+    ensures second { IfSome result (λ pair. pair.1 < 3) }
+    ensures apart { IfSome result (λ pair. pair.0 ≢ pair.1) }
 {
-    match text {
-        "$0" => Some(0),
-        "$1" => Some(1),
-        "$2" => Some(2),
+    let (first, others) = operands.split_first()?;
+    let a = qubit_of(first)?;
+    let b = only_qubit(others)?;
+    if a == b { None } else { Some((a, b)) }
+}
+
+/// The qubits of operands, where each is one.
+fn qubits_of(alloc: Global, operands: &[Operand]) -> Result<Option<List<u8>>, AllocError>
+    ensures value { IfOk result (λ qubits. qubits ≡ qubits_of operands.now) }
+    ensures three { IfOk result (λ qubits. IfSome qubits (λ qs. All (λ q. q < 3) qs)) }
+    ensures same { IfOk result (λ qubits. IfSome qubits (λ qs. length qs ≡ length operands.now)) }
+{
+    let mut qubits = List::new(alloc);
+    for operand in operands {
+        let Some(qubit) = qubit_of(operand) else {
+            return Ok(None);
+        };
+        qubits.push(qubit)?;
+    }
+    Ok(Some(qubits))
+}
+
+/// The ticks that a number of `dt` is, where it is whole and no longer than a delay may be.
+fn ticks_of(value: Frac) -> Option<u64>
+    ensures value { result ≡ ticks_of value }
+    ensures longest { IfSome result (λ ticks. ticks ≤ longest_delay_ticks) }
+{
+    let ticks = value.num().unsigned_abs();
+    if value.den() == 1 && 0 <= value.num() && ticks <= LONGEST_DELAY_TICKS {
+        Some(ticks as u64)
+    } else {
+        None
+    }
+}
+
+/// The ticks that a number of a unit is, where that unit is `dt`.
+fn ticks_in(value: Frac, unit: Unit) -> Option<u64>
+    ensures value { result ≡ ticks_in value unit }
+    ensures longest { IfSome result (λ ticks. ticks ≤ longest_delay_ticks) }
+{
+    match unit {
+        Unit::Dt => ticks_of(value),
+        Unit::Ns | Unit::Us | Unit::Ms | Unit::S => None,
+    }
+}
+
+/// The ticks of an expression that is a time.
+#[tactic(auto, unfolding(crate::specs::front::Source::time_of))]
+fn time_of(e: &Expr) -> Option<u64>
+    ensures value { result ≡ time_of e.now }
+    ensures longest { IfSome result (λ ticks. ticks ≤ longest_delay_ticks) }
+{
+    match &e.kind {
+        ExprKind::Time(value, unit) => ticks_in(*value, *unit),
+        ExprKind::Whole(_)
+        | ExprKind::Decimal(_)
+        | ExprKind::Text(_)
+        | ExprKind::Truth(_)
+        | ExprKind::Name(_)
+        | ExprKind::Index(_, _)
+        | ExprKind::Physical(_)
+        | ExprKind::Call(_, _)
+        | ExprKind::Cast(_, _)
+        | ExprKind::DurationOf(_)
+        | ExprKind::Group(_)
+        | ExprKind::Unary(_, _)
+        | ExprKind::Binary(_, _, _)
+        | ExprKind::Number(_) => None,
+    }
+}
+
+/// What a gate of this name does to operands.
+#[tactic(auto, unfolding(crate::specs::front::Source::gate_of))]
+fn gate_of(name: &str, operands: &[Operand]) -> Option<Statement>
+    ensures value { result ≡ gate_of name.now operands.now }
+    ensures formed { IfSome result IsWellFormed }
+{
+    match name {
+        "x" => Some(Statement::X(only_qubit(operands)?)),
+        "cx" => {
+            let (control, target) = qubit_pair(operands)?;
+            Some(Statement::Cx(control, target))
+        }
         _ => None,
     }
 }
 
-/// The ticks of a token's text: one to ten digits and `dt`. An eleventh digit isn't read: it makes
-/// it no time.
-#[tactic(auto, unfolding(crate::specs::front::Source::time_of))]
-fn time_of(text: &str) -> Option<u64>
-    ensures value { result ≡ time_of text.now }
-    ensures longest { IfSome result (λ t. t ≤ longest_delay_ticks) }
+/// The statement of a call without modifiers and parameters.
+#[tactic(auto, unfolding(crate::specs::front::Source::call_of))]
+fn call_of(call: &Call) -> Option<Statement>
+    ensures value { result ≡ call_of call.now }
+    ensures formed { IfSome result IsWellFormed }
 {
-    let mut ticks = 0u64;
-    let mut count = 0;
-    let mut rest = text.as_bytes();
-    while let Some((byte, others)) = rest.split_first() {
-        if !byte.is_ascii_digit() {
-            break;
+    match &call.args {
+        Some(_) => None,
+        None => {
+            if call.modifiers.is_empty() {
+                gate_of(call.name.name.as_str(), call.operands.as_slice())
+            } else {
+                None
+            }
         }
-        if count == MOST_DIGITS {
-            return None;
-        }
-        ticks = 10 * ticks + (*byte - b'0') as u64;
-        count += 1;
-        rest = others;
     }
-    if count == 0 || LONGEST_DELAY_TICKS < ticks || rest != b"dt".as_slice() {
-        return None;
-    }
-    Some(ticks)
 }
 
-/// The qubit that comes next, and the tokens after it.
-fn qubit(tokens: &[Token]) -> Option<(u8, &[Token])>
-    ensures value { option_map (λ q. record { value = q.0; rest = q.1.now }) result ≡ qubit_at tokens.now }
-    ensures three { IfSome result (λ q. q.0 < 3) }
-    ensures within { IfSome result (λ q. length q.1.now < length tokens.now) }
+/// A delay of a time on one qubit.
+#[tactic(auto, unfolding(crate::specs::front::Source::delay_of))]
+fn delay_of(time: &Expr, operands: &[Operand]) -> Option<Statement>
+    ensures value { result ≡ delay_of time.now operands.now }
+    ensures formed { IfSome result IsWellFormed }
 {
-    let (token, rest) = tokens.split_first()?;
-    Some((qubit_of(token.text.as_str())?, rest))
+    let ticks = time_of(time)?;
+    Some(Statement::Delay(ticks, only_qubit(operands)?))
 }
 
-/// The qubit that comes next after a comma, and the tokens after it.
-#[tactic(auto, unfolding(crate::specs::front::Source::next_qubit_at))]
-fn next_qubit(tokens: &[Token]) -> Option<(u8, &[Token])>
-    ensures value { option_map (λ q. record { value = q.0; rest = q.1.now }) result ≡ next_qubit_at tokens.now }
-    ensures three { IfSome result (λ q. q.0 < 3) }
-    ensures within { IfSome result (λ q. length q.1.now < length tokens.now) }
+/// A barrier on one or more qubits.
+#[tactic(auto, unfolding(crate::specs::front::Source::barrier_of))]
+fn barrier_of(alloc: Global, operands: &[Operand]) -> Result<Option<Statement>, AllocError>
+    ensures value { IfOk result (λ statement. statement ≡ barrier_of operands.now) }
+    ensures formed { IfOk result (λ statement. IfSome statement IsWellFormed) }
 {
-    qubit(after(tokens, ",")?)
-}
-
-/// The time that comes next, and the tokens after it.
-fn time(tokens: &[Token]) -> Option<(u64, &[Token])>
-    ensures value { option_map (λ t. record { value = t.0; rest = t.1.now }) result ≡ time_at tokens.now }
-    ensures longest { IfSome result (λ t. t.0 ≤ longest_delay_ticks) }
-    ensures within { IfSome result (λ t. length t.1.now < length tokens.now) }
-{
-    let (token, rest) = tokens.split_first()?;
-    Some((time_of(token.text.as_str())?, rest))
-}
-
-/// The statement, where `;` comes next, and the tokens after that.
-fn before_semicolon(statement: Statement, tokens: &[Token]) -> Option<(Statement, &[Token])>
-    ensures value { option_map (λ s. record { value = s.0; rest = s.1.now }) result ≡ before_semicolon statement tokens.now }
-    ensures same { IfSome result (λ s. s.0 ≡ statement) }
-    ensures within { IfSome result (λ s. length s.1.now < length tokens.now) }
-{
-    Some((statement, after(tokens, ";")?))
-}
-
-/// What stands after the word `x`.
-#[tactic(auto, unfolding(crate::specs::front::Source::x_at))]
-fn x(tokens: &[Token]) -> Option<(Statement, &[Token])>
-    ensures value { option_map (λ s. record { value = s.0; rest = s.1.now }) result ≡ x_at tokens.now }
-    ensures formed { IfSome result (λ s. IsWellFormed s.0) }
-    ensures within { IfSome result (λ s. length s.1.now < length tokens.now) }
-{
-    let (on, rest) = qubit(tokens)?;
-    before_semicolon(Statement::X(on), rest)
-}
-
-/// What stands after the word `cx`.
-#[tactic(auto, unfolding(crate::specs::front::Source::cx_at))]
-fn cx(tokens: &[Token]) -> Option<(Statement, &[Token])>
-    ensures value { option_map (λ s. record { value = s.0; rest = s.1.now }) result ≡ cx_at tokens.now }
-    ensures formed { IfSome result (λ s. IsWellFormed s.0) }
-    ensures within { IfSome result (λ s. length s.1.now < length tokens.now) }
-{
-    let (control, others) = qubit(tokens)?;
-    let (target, rest) = next_qubit(others)?;
-    if control == target {
-        return None;
-    }
-    before_semicolon(Statement::Cx(control, target), rest)
-}
-
-/// What stands after the word `delay`.
-#[tactic(auto, unfolding(crate::specs::front::Source::delay_at))]
-fn delay(tokens: &[Token]) -> Option<(Statement, &[Token])>
-    ensures value { option_map (λ s. record { value = s.0; rest = s.1.now }) result ≡ delay_at tokens.now }
-    ensures formed { IfSome result (λ s. IsWellFormed s.0) }
-    ensures within { IfSome result (λ s. length s.1.now < length tokens.now) }
-{
-    let (ticks, close) = time(after(tokens, "[")?)?;
-    let (on, rest) = qubit(after(close, "]")?)?;
-    before_semicolon(Statement::Delay(ticks, on), rest)
-}
-
-/// Puts the qubits that come next after commas to those before. The rest is what stands after
-/// them.
-fn more_qubits<'a>(qubits: &mut List<u8>, tokens: &'a [Token]) -> Result<&'a [Token], AllocError>
-    ensures value { IfOk result (λ r. more_qubits (length tokens.now) qubits.old tokens.now ≡ record { value = qubits.new; rest = r.now }) }
-    ensures three { IfOk result (λ _. All (λ q. q < 3) qubits.old → All (λ q. q < 3) qubits.new) }
-    ensures more { IfOk result (λ _. length qubits.old ≤ length qubits.new) }
-    ensures within { IfOk result (λ r. length r.now ≤ length tokens.now) }
-{
-    let mut rest = tokens;
-    while let Some((on, others)) = next_qubit(rest) {
-        qubits.push(on)?;
-        rest = others;
-    }
-    Ok(rest)
-}
-
-/// What stands after the word `barrier`.
-#[tactic(auto, unfolding(crate::specs::front::Source::barrier_at))]
-fn barrier(alloc: Global, tokens: &[Token]) -> Result<Option<(Statement, &[Token])>, AllocError>
-    ensures value { IfOk result (λ b. option_map (λ s. record { value = s.0; rest = s.1.now }) b ≡ barrier_at tokens.now) }
-    ensures formed { IfOk result (λ b. IfSome b (λ s. IsWellFormed s.0)) }
-    ensures within { IfOk result (λ b. IfSome b (λ s. length s.1.now < length tokens.now)) }
-{
-    let Some((first, others)) = qubit(tokens) else {
+    if operands.is_empty() {
         return Ok(None);
-    };
-    let mut qubits = List::new(alloc);
-    qubits.push(first)?;
-    let rest = more_qubits(&mut qubits, others)?;
-    Ok(before_semicolon(Statement::Barrier(qubits), rest))
-}
-
-/// What a statement with this word and these tokens after it is, and the tokens after it.
-fn statement_by<'a>(
-    alloc: Global,
-    word: &str,
-    tokens: &'a [Token],
-) -> Result<Option<(Statement, &'a [Token])>, AllocError>
-    ensures value { IfOk result (λ b. option_map (λ s. record { value = s.0; rest = s.1.now }) b ≡ statement_by word.now tokens.now) }
-    ensures formed { IfOk result (λ b. IfSome b (λ s. IsWellFormed s.0)) }
-    ensures within { IfOk result (λ b. IfSome b (λ s. length s.1.now < length tokens.now)) }
-{
-    match word {
-        "x" => Ok(x(tokens)),
-        "cx" => Ok(cx(tokens)),
-        "delay" => Ok(delay(tokens)),
-        "barrier" => barrier(alloc, tokens),
-        _ => Ok(None),
     }
-}
-
-/// The statement that comes first, and the tokens after it.
-#[tactic(auto, unfolding(crate::specs::front::Source::statement_at))]
-fn statement(alloc: Global, tokens: &[Token]) -> Result<Option<(Statement, &[Token])>, AllocError>
-    ensures value { IfOk result (λ b. option_map (λ s. record { value = s.0; rest = s.1.now }) b ≡ statement_at tokens.now) }
-    ensures formed { IfOk result (λ b. IfSome b (λ s. IsWellFormed s.0)) }
-    ensures within { IfOk result (λ b. IfSome b (λ s. length s.1.now < length tokens.now)) }
-{
-    match tokens.split_first() {
-        Some((first, rest)) => statement_by(alloc, first.text.as_str(), rest),
+    match qubits_of(alloc, operands)? {
+        Some(qubits) => Ok(Some(Statement::Barrier(qubits))),
         None => Ok(None),
     }
 }
 
-/// The statements of these tokens at their places, in their order.
+/// The statement that a statement of a tree is, where it is one that is built.
+#[tactic(auto, unfolding(crate::specs::front::Source::statement_of))]
+fn statement_of(alloc: Global, stmt: &Stmt) -> Result<Option<Statement>, AllocError>
+    ensures value { IfOk result (λ statement. statement ≡ statement_of stmt.now) }
+    ensures formed { IfOk result (λ statement. IfSome statement IsWellFormed) }
+{
+    match &stmt.kind {
+        StmtKind::GateCall(call) => Ok(call_of(call)),
+        StmtKind::Delay(time, operands) => Ok(delay_of(time, operands.as_slice())),
+        StmtKind::Barrier(operands) => barrier_of(alloc, operands.as_slice()),
+        StmtKind::Include(_)
+        | StmtKind::DefcalGrammar(_)
+        | StmtKind::Qubit(_, _)
+        | StmtKind::Input(_, _)
+        | StmtKind::Output(_, _)
+        | StmtKind::Gate(_, _, _, _)
+        | StmtKind::Cal(_)
+        | StmtKind::Defcal(_, _, _, _, _)
+        | StmtKind::Init(_, _, _, _)
+        | StmtKind::Declare(_, _)
+        | StmtKind::Stretch(_)
+        | StmtKind::Assign(_, _)
+        | StmtKind::Update(_, _, _)
+        | StmtKind::Measure(_, _)
+        | StmtKind::Reset(_)
+        | StmtKind::Box(_, _)
+        | StmtKind::If(_, _, _)
+        | StmtKind::While(_, _)
+        | StmtKind::For(_, _, _, _)
+        | StmtKind::Break
+        | StmtKind::Continue
+        | StmtKind::End => Ok(None),
+    }
+}
+
+/// The statements of a tree at their places, in their order.
 ///
 /// # Errors
 ///
-/// As those of `read`, of a source that has tokens.
-fn read_tokens(alloc: Global, tokens: &[Token], most: u32) -> Result<List<LocatedStatement>, Halt>
-    ensures reads { ReadsTokens most tokens.now result }
-    ensures formed { IfOk result (λ v. AreWellFormed v) }
+/// As those of `read`, of a source that has a tree.
+fn read_statements(alloc: Global, stmts: &[Stmt], most: u32) -> Result<List<LocatedStatement>, Halt>
+    ensures reads { ReadsStatements most stmts.now result }
+    ensures formed { IfOk result AreWellFormed }
     ensures few { IfOk result (λ v. length v ≤ most) }
 {
     let mut statements = List::new(alloc);
-    let mut rest = tokens;
     let mut left = most;
-    while let Some((first, _)) = rest.split_first() {
+    for stmt in stmts {
         if left == 0 {
-            return Err(Halt::Refused(refusal_at(alloc, NOT_BUILT, Some(first.span))));
+            return Err(Halt::Refused(refusal_at(alloc, NOT_BUILT, Some(stmt.span))));
         }
-        let Some((statement, others)) = statement(alloc, rest)? else {
-            return Err(Halt::Refused(refusal_at(alloc, NOT_BUILT, Some(first.span))));
+        let Some(statement) = statement_of(alloc, stmt)? else {
+            return Err(Halt::Refused(refusal_at(alloc, NOT_BUILT, Some(stmt.span))));
         };
         statements.push(LocatedStatement {
-            span: first.span,
+            span: stmt.span,
             statement,
         })?;
-        rest = others;
         left -= 1;
     }
     Ok(statements)
 }
 
 /// The statements of a source at their places, in their order: `x $a;`, `cx $a, $b;`,
-/// `delay[Ndt] $a;` and `barrier $a, ..;`.
+/// `delay[Ndt] $a;` and `barrier $a, ..;`, after a version line or without one.
 ///
 /// # Errors
 ///
 /// `Halt::Refused` with the code and the place of the source's first fault among its lexemes; where
-/// it has none, with the code of what isn't built and the place of the first token that begins no such
-/// statement, or of the statement that is one too many. `Halt::Memory` where out of memory.
+/// it has none, with those of its tokens where they have no tree, with the word for 113; else with the
+/// code of what isn't built and the place of the first statement that isn't, or that is one too many.
+/// `Halt::Memory` where out of memory.
 pub fn read(alloc: Global, source: &[u8]) -> Result<List<LocatedStatement>, Halt>
     requires { length source.now ≤ longest_file_bytes }
     ensures reads { Reads source.now result }
     ensures formed { IfOk result AreWellFormed }
     ensures few { IfOk result (λ v. length v ≤ most_statements) }
 {
-    match lex(alloc, source) {
-        Ok(tokens) => read_tokens(alloc, tokens.as_slice(), MOST_STATEMENTS),
-        Err(fault) => Err(halt_of(alloc, &fault)),
+    let tokens = match lex(alloc, source) {
+        Ok(tokens) => tokens,
+        Err(fault) => return Err(halt_of(alloc, &fault)),
+    };
+    match parse(alloc, tokens.as_slice()) {
+        Ok(tree) => read_statements(alloc, tree.body.as_slice(), MOST_STATEMENTS),
+        Err(refusal) => Err(malformed_halt(alloc, refusal)),
     }
 }

@@ -1,9 +1,10 @@
 ghost use Rattle.std.specs.Prelude.{◌≡◌, Option, ℕ};
 ghost use Rattle.qs_values.specs.declared.span.Span.{Span as Place};
-ghost use Rattle.qasm_main.specs.front.Refused.{halt_of, refusal_at};
+ghost use Rattle.qasm_main.specs.front.Refused.{MalformedHalt, halt_of, refusal_at};
 
 use box_schedule::BoxRefusal;
 use qs_lexer::LexRefusal;
+use qs_parser::ParseRefusal;
 use qs_values::{Halt, List, Refusal, Span};
 use std::alloc::Global;
 
@@ -65,6 +66,27 @@ pub fn halt_of<E: PassRefusal>(alloc: Global, refusal: &E) -> Halt
     match refusal.code() {
         0 => Halt::Memory,
         code => Halt::Refused(refusal_at(alloc, code, refusal.place())),
+    }
+}
+
+/// What a refusal of tokens ends a compilation with: its code, its place, and the word for 113.
+pub fn malformed_halt(alloc: Global, refusal: ParseRefusal) -> Halt
+    ensures { MalformedHalt refusal result }
+{
+    let code = refusal.code();
+    let span = refusal.span();
+    match refusal {
+        ParseRefusal::Unsupported { word, .. } => {
+            let mut words = List::new(alloc);
+            match words.push(word) {
+                Ok(()) => Halt::Refused(Refusal { code, span, words }),
+                Err(_) => Halt::Memory,
+            }
+        }
+        ParseRefusal::NoStatement { .. }
+        | ParseRefusal::TooDeep { .. }
+        | ParseRefusal::VersionUnknown { .. } => Halt::Refused(refusal_at(alloc, code, span)),
+        ParseRefusal::Memory => Halt::Memory,
     }
 }
 

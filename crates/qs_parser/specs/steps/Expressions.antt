@@ -1,5 +1,5 @@
 -- How an expression is read: an account of what the readers do, beside what is true of trees.
-use Rattle.std.specs.Prelude.{ℕ, zero, suc, nat_eq, List, [], ◌∷◌, length, Bool, true, false, ◌&&◌, ◌||◌, if◌then◌else◌, codes, Option, Some, None}
+use Rattle.std.specs.Prelude.{ℕ, zero, suc, nat_eq, List, [], ◌∷◌, length, Bool, true, false, ◌&&◌, if◌then◌else◌, codes, Option, Some, None}
 use Rattle.std.specs.Str.{bytes_eq}
 use Rattle.qs_values.specs.Names.{is_name}
 use Rattle.qs_values.specs.declared.span.Span.{Span}

@@ -1,11 +1,9 @@
 -- How a statement at the top of a source is read: an account of what the readers do, beside what is true of trees.
-use Rattle.std.specs.Prelude.{ℕ, zero, suc, List, [], ◌∷◌, length, Bool, true, false, ◌&&◌, ◌||◌, if◌then◌else◌, codes, Option, Some, None}
+use Rattle.std.specs.Prelude.{ℕ, List, [], ◌∷◌, length, Bool, true, false, if◌then◌else◌, codes, Option, Some, None}
 use Rattle.std.specs.Str.{bytes_eq}
 use Rattle.qs_values.specs.declared.span.Span.{Span}
 use Rattle.qs_lexer.specs.declared.token.Token.{Token}
-use Rattle.qs_lexer.specs.declared.token.TokenKind.{TokenKind}
 use Rattle.qs_lexer.specs.declared.token.TokenKind.TheVariants as kind
-use Rattle.qs_tree.specs.declared.expr.TypeExpr.{TypeExpr}
 use Rattle.qs_tree.specs.declared.name.Ident.{Ident}
 use Rattle.qs_tree.specs.declared.pulse.CalName.{CalName}
 use Rattle.qs_tree.specs.declared.pulse.CalName.TheVariants as calibrates

@@ -1,11 +1,10 @@
 -- How a source is read, and why it isn't: an account of what `parse` does, beside what is true of trees.
-use Rattle.std.specs.Prelude.{ℕ, zero, suc, List, [], ◌∷◌, length, Bool, true, false, ◌&&◌, ◌||◌, not, if◌then◌else◌, codes, Option, Some, None}
+use Rattle.std.specs.Prelude.{ℕ, zero, suc, List, [], ◌∷◌, Bool, true, false, ◌&&◌, ◌||◌, not, if◌then◌else◌, codes, Option, Some, None}
 use Rattle.std.specs.List.{list_any}
 use Rattle.std.specs.Str.{bytes_eq}
 use Rattle.qs_lexer.specs.declared.token.Token.{Token}
 use Rattle.qs_lexer.specs.declared.token.TokenKind.{TokenKind}
 use Rattle.qs_lexer.specs.declared.token.TokenKind.TheVariants as kind
-use Rattle.qs_tree.specs.declared.source.Source.{Source}
 use Rattle.qs_tree.specs.declared.statement.Stmt.{Stmt}
 use Rattle.qs_tree.specs.WellFormed.{is_version, limits, twice_limits}
 use Rattle.qs_parser.specs.Language.{left_out}

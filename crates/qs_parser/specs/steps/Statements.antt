@@ -1,16 +1,14 @@
 -- How a statement is read: an account of what the readers do, beside what is true of trees.
-use Rattle.std.specs.Prelude.{ℕ, zero, suc, List, [], ◌∷◌, length, Bool, true, false, ◌&&◌, ◌||◌, not, if◌then◌else◌, codes, Option, Some, None}
+use Rattle.std.specs.Prelude.{ℕ, zero, suc, List, [], ◌∷◌, length, Bool, true, false, ◌&&◌, ◌||◌, if◌then◌else◌, codes, Option, Some, None}
 use Rattle.std.specs.Str.{bytes_eq}
 use Rattle.qs_values.specs.Names.{is_name}
 use Rattle.qs_values.specs.declared.span.Span.{Span}
 use Rattle.qs_lexer.specs.declared.token.Token.{Token}
-use Rattle.qs_lexer.specs.declared.token.TokenKind.{TokenKind}
 use Rattle.qs_lexer.specs.declared.token.TokenKind.TheVariants as kind
 use Rattle.qs_tree.specs.declared.assign.AssignOp.{AssignOp}
 use Rattle.qs_tree.specs.declared.assign.AssignOp.TheVariants as assigns
 use Rattle.qs_tree.specs.declared.expr.Expr.{Expr}
 use Rattle.qs_tree.specs.declared.expr.TypeExpr.{TypeExpr}
-use Rattle.qs_tree.specs.declared.expr.TypeWord.{TypeWord}
 use Rattle.qs_tree.specs.declared.gate.Call.{Call, roll-Call}
 use Rattle.qs_tree.specs.declared.gate.Modifier.{Modifier}
 use Rattle.qs_tree.specs.declared.gate.Modifier.TheVariants.{Inv, Pow, Ctrl, NegCtrl}
@@ -28,7 +26,7 @@ use Rattle.qs_tree.specs.declared.statement.Stmt.{Stmt}
 use Rattle.qs_tree.specs.declared.statement.StmtKind.{StmtKind}
 use Rattle.qs_tree.specs.declared.statement.StmtKind.TheVariants.{Init, Declare, Stretch, GateCall, Assign, Update, Measure, Reset, Barrier, Delay, Box, If, While, For, Break, Continue, End}
 use Rattle.qs_tree.specs.WellFormed.{of_body}
-use Rattle.qs_parser.specs.steps.Tokens.{◌>>=◌, Readers, Reads, after_sign, after_word, begins_sign, begins_word, commas, has_sign, has_word, name_at, renewed, up_to_brace}
+use Rattle.qs_parser.specs.steps.Tokens.{◌>>=◌, Readers, Reads, after_sign, after_word, begins_sign, commas, has_sign, has_word, name_at, renewed, up_to_brace}
 use Rattle.qs_parser.specs.steps.Expressions.{args_at, enclosed, type_of, type_word, whole_at}
 
 -- ---- parts of statements

@@ -1,5 +1,5 @@
 use Rattle.outside.proofs.Texts.{goes-then}
-use Rattle.timeline_board.proofs.Pages.{at-end}
+use Rattle.outside.proofs.Texts.{at-end}
 use Rattle.qasm_dump.proofs.top.tell.Goals as goal
 
 pub returns : goal.returns

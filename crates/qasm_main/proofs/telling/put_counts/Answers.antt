@@ -1,4 +1,4 @@
-use Rattle.qasm_main.proofs.Pages.{at-end, goes-then}
+use Rattle.outside.proofs.Texts.{at-end, goes-then}
 use Rattle.qasm_main.proofs.telling.put_counts.Goals as goal
 
 pub returns : goal.returns

@@ -1,7 +1,7 @@
 use Rattle.std.proofs.Common.{subst}
 use Rattle.outside.specs.Sink.{PutsText}
 use Rattle.qasm_main.specs.Texts.{read_failed}
-use Rattle.qasm_main.proofs.Pages.{at-end, goes-then}
+use Rattle.outside.proofs.Texts.{at-end, goes-then}
 use Rattle.qasm_main.proofs.telling.put_read_failed.Goals as goal
 
 pub returns : goal.returns

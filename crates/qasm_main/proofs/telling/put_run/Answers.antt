@@ -1,6 +1,6 @@
 use Rattle.std.proofs.Common.{◌≡◌, subst}
 use Rattle.std.proofs.lemmas.Result.{err_from_is_err_and}
-use Rattle.outside.specs.Sink.{PutsText, StopsIn, with_text}
+use Rattle.outside.specs.Sink.{StopsIn, with_text}
 use Rattle.qasm_main.specs.Texts.{counts_line}
 use Rattle.qasm_main.proofs.TextLemmas.{puts-after, stops-before}
 use Rattle.qasm_main.proofs.telling.put_run.Goals as goal

@@ -1,5 +1,5 @@
 use Rattle.qasm_main.specs.Texts.{usage}
-use Rattle.qasm_main.proofs.Pages.{at-end}
+use Rattle.outside.proofs.Texts.{at-end}
 use Rattle.qasm_main.proofs.telling.put_usage.Goals as goal
 
 pub returns : goal.returns

@@ -1,7 +1,7 @@
 use Rattle.std.proofs.Common.{◌≡◌, ◌+◌, ◌-◌, [], ◌++◌, ap, refl, sym, ◌∙◌, append_assoc, arith}
 use Rattle.std.specs.Prelude.{decimal, slice_index}
 use Rattle.std.proofs.lemmas.List.{append-nil}
-use Rattle.timeline_board.proofs.Pages.{goes-as, goes-nowhere, goes-then}
+use Rattle.outside.proofs.Texts.{goes-as, goes-nowhere, goes-then}
 use Rattle.timeline_board.specs.Report.{digits_from}
 use Rattle.timeline_board.proofs.ValueLemmas.{digits-next}
 use Rattle.timeline_board.proofs.lines.put_bits.Goals as goal

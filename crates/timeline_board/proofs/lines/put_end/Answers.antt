@@ -1,4 +1,4 @@
-use Rattle.timeline_board.proofs.Pages.{goes-as, goes-then}
+use Rattle.outside.proofs.Texts.{goes-as, goes-then}
 use Rattle.timeline_board.proofs.lines.put_end.Goals as goal
 
 pub returns : goal.returns

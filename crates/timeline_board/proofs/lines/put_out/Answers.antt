@@ -1,5 +1,5 @@
 use Rattle.std.proofs.Common.{◌∙◌}
-use Rattle.timeline_board.proofs.Pages.{goes-as, goes-then}
+use Rattle.outside.proofs.Texts.{goes-as, goes-then}
 use Rattle.timeline_board.proofs.lines.put_out.Goals as goal
 
 pub returns : goal.returns

@@ -1,5 +1,5 @@
 use Rattle.std.proofs.Common.{ap}
-use Rattle.timeline_board.proofs.Pages.{goes-as, goes-then}
+use Rattle.outside.proofs.Texts.{goes-as, goes-then}
 use Rattle.timeline_board.specs.Report.{out_line}
 use Rattle.timeline_board.proofs.LineLemmas.{line-more}
 use Rattle.timeline_board.proofs.lines.put_outs.Goals as goal

@@ -1,6 +1,6 @@
 use Rattle.std.proofs.Common.{◌≡◌, ◌-◌, ◌*◌, ◌%◌, ◌^◌, ◌≤◌, ◌++◌, ap, subst, ◌∙◌, arith}
 use Rattle.std.specs.Prelude.{codes, decimal}
-use Rattle.timeline_board.proofs.Pages.{goes-as, goes-then}
+use Rattle.outside.proofs.Texts.{goes-as, goes-then}
 use Rattle.timeline_board.proofs.ValueLemmas.{half-fits, signed-below}
 use Rattle.timeline_board.proofs.lines.put_signed.Goals as goal
 

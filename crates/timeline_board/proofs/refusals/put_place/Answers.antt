@@ -1,5 +1,5 @@
 use Rattle.std.proofs.Common.{ap, sym}
-use Rattle.timeline_board.proofs.Pages.{goes-as, goes-then}
+use Rattle.outside.proofs.Texts.{goes-as, goes-then}
 use Rattle.timeline_board.specs.Refused.{place_text}
 use Rattle.timeline_board.proofs.refusals.put_place.Goals as goal
 

@@ -1,5 +1,5 @@
 use Rattle.std.proofs.Common.{◌∙◌}
-use Rattle.timeline_board.proofs.Pages.{goes-as, goes-then}
+use Rattle.outside.proofs.Texts.{goes-as, goes-then}
 use Rattle.timeline_board.specs.Refused.{word_text}
 use Rattle.timeline_board.proofs.LineLemmas.{line-more}
 use Rattle.timeline_board.proofs.refusals.put_words.Goals as goal

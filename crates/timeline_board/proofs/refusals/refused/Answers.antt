@@ -1,9 +1,8 @@
 use Rattle.std.proofs.Common.{ℕ, List, Bor, ap, sym, ◌∙◌}
 use Rattle.std.specs.Prelude.{option_map}
 use Rattle.std.specs.List.{flat_map}
-use Rattle.timeline_board.proofs.Pages.{goes-as, goes-then}
+use Rattle.outside.proofs.Texts.{at-end, goes-as, goes-then}
 use Rattle.timeline_board.specs.Refused.{word_text}
-use Rattle.timeline_board.proofs.Pages.{at-end}
 use Rattle.timeline_board.proofs.refusals.refused.Goals as goal
 
 pub returns : goal.returns

@@ -1,5 +1,5 @@
 use Rattle.std.proofs.Common.{[], ◌∷◌, ◌++◌, subst, sym}
-use Rattle.timeline_board.proofs.Pages.{goes-as, goes-nowhere, goes-then}
+use Rattle.outside.proofs.Texts.{goes-as, goes-nowhere, goes-then}
 use Rattle.timeline_board.specs.Conditions.{AreNamed}
 use Rattle.timeline_board.specs.Order.{logs_of}
 use Rattle.timeline_board.specs.Report.{entry_line}

@@ -1,11 +1,10 @@
 use Rattle.std.proofs.Common.{ap, subst, sym, ◌∙◌}
 use Rattle.std.specs.Prelude.{All, IsSomeAnd}
 use Rattle.std.specs.List.{flat_map}
-use Rattle.timeline_board.proofs.Pages.{goes-as, goes-then}
+use Rattle.outside.proofs.Texts.{at-end, goes-as, goes-then}
 use Rattle.controller_machine.specs.Ctl.{shown_of}
 use Rattle.timeline_board.specs.Conditions.{HoldsValue, HoldsVars}
 use Rattle.timeline_board.specs.Report.{end_line, out_line}
-use Rattle.timeline_board.proofs.Pages.{at-end}
 use Rattle.timeline_board.proofs.ValueLemmas.{holds-outs}
 use Rattle.timeline_board.proofs.reports.report.Goals as goal
 
