@@ -92,7 +92,8 @@ fn begin(clocks: &[u64; QUBITS], qubits: &[u8]) -> u64
 /// Moves the clocks of these qubits to the tick `end`, but none back.
 fn move_clocks(clocks: &mut [u64; QUBITS], qubits: &[u8], end: u64)
     ensures { (q : ℕ) → q < QUBITS → slice_index clocks.new q
-        ≡ (if is_among qubits.now q then max end (slice_index clocks.old q) else slice_index clocks.old q) }
+        ≡ (if is_among qubits.now q then max end (slice_index clocks.old q)
+        else slice_index clocks.old q) }
 {
     for qubit in qubits {
         let clock = &mut clocks[usize::from(*qubit)];

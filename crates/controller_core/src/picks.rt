@@ -107,7 +107,8 @@ impl Model for Core {
 
     ghost view = { λ c. core_of c.plan.value c.tape.value c.mail c.controllers.items };
 
-    ghost invariant = { λ c. IsReached (core_of c.plan.value c.tape.value c.mail c.controllers.items)
+    ghost invariant = { λ c.
+        IsReached (core_of c.plan.value c.tape.value c.mail c.controllers.items)
         × (1 ≤ vec_len c.controllers)
         × (vec_len c.controllers ≤ 16) };
 }

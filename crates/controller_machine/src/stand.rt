@@ -56,7 +56,8 @@ impl Spot {
 
     /// The item at this spot, if there is one.
     pub fn item(self, body: &[PartStmt]) -> Option<&Item>
-        ensures value { option_copied result ≡ item_in self.item (slice_get body.now self.statement) }
+        ensures value { option_copied result
+            ≡ item_in self.item (slice_get body.now self.statement) }
         ensures next { IsSome result → self.item + 1 < 2 ^ 64 }
     {
         match body.get(self.statement)? {

@@ -30,7 +30,8 @@ pub fn start_store(
 
 /// Puts an input's value into its variables, a register's bit by bit.
 fn put_input(store: &mut Vec<u64>, input: &Input, value: u64)
-    requires { input.now.first + size_of input.now.ty.kind input.now.ty.width ≤ length store.old.items }
+    requires { input.now.first + size_of input.now.ty.kind input.now.ty.width
+        ≤ length store.old.items }
     ensures { store.new.items ≡ put_cells store.old.items input.now.first
         (cells_of input.now.ty.kind input.now.ty.width value) }
 {

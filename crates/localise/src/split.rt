@@ -54,7 +54,8 @@ fn put_stmt(
     stmt: &PlanStmt,
 ) -> Result<(), Memory>
     requires { IsSoundStmt plan.now false stmt.now }
-    ensures { OnOk result ((here : Place) → body.new ≡ body.old ++ part_stmt plan.now controller stmt.now here) }
+    ensures { OnOk result
+        ((here : Place) → body.new ≡ body.old ++ part_stmt plan.now controller stmt.now here) }
 {
     let PlanStmt::Block(block) = stmt;
     let items = items_of(alloc, plan, controller, block.events.as_slice())?;

@@ -63,7 +63,8 @@ impl<W: Write + Drop> Sink for StreamSink<W> {
     ghost state = { stream_state };
 
     fn put(&mut self, piece: &[u8]) -> Result<usize, PutFailed>
-        ensures meaning { AnswersPut (stream_state self.old) (stream_state self.new) piece.now result }
+        ensures meaning { AnswersPut (stream_state self.old) (stream_state self.new)
+            piece.now result }
         ensures held { WriteAppends self.old.held self.new.held result piece.now }
     {
         if piece.is_empty() {
@@ -94,7 +95,8 @@ impl<R: Files + Drop> Model for FileShelf<R> {
 
     ghost Value = { ShelfState };
 
-    ghost view = { λ s. record { files = None; faults = s.faults; failed = name_or_empty s.failed } };
+    ghost view = { λ s. record {
+        files = None; faults = s.faults; failed = name_or_empty s.failed } };
 }
 
 impl<R: Files + Drop> FileShelf<R> {

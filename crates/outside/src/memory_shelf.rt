@@ -32,7 +32,8 @@ impl Model for MemoryShelf {
 
     ghost use Rattle.outside.specs.Kept.{files_of, name_or_empty};
 
-    ghost view = { λ s. record { files = files_of s.files; fails = s.fails; calls = s.calls; faults = s.faults; failed = name_or_empty s.failed } };
+    ghost view = { λ s. record {
+        files = files_of s.files; fails = s.fails; calls = s.calls; faults = s.faults; failed = name_or_empty s.failed } };
 }
 
 impl MemoryShelf {
@@ -40,7 +41,8 @@ impl MemoryShelf {
     /// call by a name that no file has. Of several files with one name the first counts. A call
     /// that finds no memory has no number.
     pub fn new(files: List<Kept>, fails: List<u32>) -> MemoryShelf
-        ensures { result ≡ record { files = files_of files; fails = fails; calls = 0; faults = 0; failed = [] } }
+        ensures { result ≡ record {
+            files = files_of files; fails = fails; calls = 0; faults = 0; failed = [] } }
     {
         MemoryShelf {
             files,
@@ -58,7 +60,8 @@ impl Shelf for MemoryShelf {
     ghost state = { shelf_state };
 
     fn take(&mut self, alloc: Global, name: &str, limit: u32) -> Result<Taken, TakeFault>
-        ensures meaning { AnswersTake (shelf_state self.old) (shelf_state self.new) name.now limit result }
+        ensures meaning { AnswersTake (shelf_state self.old) (shelf_state self.new)
+            name.now limit result }
         ensures exact { TakesInMemory self.old self.new name.now limit result }
     {
         let Ok(copy) = Name::copy_of(alloc, name) else {
@@ -108,7 +111,8 @@ fn read(alloc: Global, files: &[Kept], name: &str, limit: u32) -> Result<Taken, 
 }
 
 fn first_named<'a>(files: &'a [Kept], name: &str) -> Option<&'a Kept>
-    ensures { MatchOption result (bytes_of (files_of files.now) name.now ≡ None) (λ f. bytes_of (files_of files.now) name.now ≡ Some f.now.bytes) }
+    ensures { MatchOption result (bytes_of (files_of files.now) name.now ≡ None)
+        (λ f. bytes_of (files_of files.now) name.now ≡ Some f.now.bytes) }
 {
     for file in files {
         if file.name.as_str() == name {

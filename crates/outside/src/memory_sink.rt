@@ -23,7 +23,8 @@ impl Model for MemorySink {
 
     ghost Value = { SinkInMemory };
 
-    ghost view = { λ s. record { bytes = s.held.items; room = s.room; piece = s.piece; faults = s.faults } };
+    ghost view = { λ s. record {
+        bytes = s.held.items; room = s.room; piece = s.piece; faults = s.faults } };
 
     ghost invariant = { λ s. (vec_len s.held + s.room ≤ vec_capacity s.held) × (0 < s.piece) };
 }
@@ -33,7 +34,8 @@ impl MemorySink {
     /// of some bytes fails where no room is left. `Memory` is out of memory.
     pub fn new(alloc: Global, room: u32, piece: u32) -> Result<MemorySink, Memory>
         requires { 0 < piece }
-        ensures { IfOk result (λ s. s ≡ record { bytes = []; room = room; piece = piece; faults = 0 }) }
+        ensures { IfOk result
+            (λ s. s ≡ record { bytes = []; room = room; piece = piece; faults = 0 }) }
     {
         Ok(MemorySink {
             held: Vec::with_capacity(alloc, room as usize)?,

@@ -95,7 +95,8 @@ impl TextBuffer {
     /// Ends the text: puts what waits, and tells whether all was put. `PutFailed` comes where the
     /// sink counted a fault since the beginning of the text, and then a front of the text was put.
     pub fn finish<K: Sink>(self, sink: &mut K) -> Result<(), PutFailed>
-        ensures { (start : SinkState) (text : List ℕ) → IsAt start (K.state sink.old) self text → PutsText start (K.state sink.new) text result }
+        ensures { (start : SinkState) (text : List ℕ) → IsAt start (K.state sink.old) self text
+            → PutsText start (K.state sink.new) text result }
     {
         let mut all = self;
         all.put_waiting(sink);
@@ -107,7 +108,8 @@ impl TextBuffer {
     /// Lets these bytes wait, for which there is room.
     fn wait(&mut self, text: &[u8])
         requires { length self.old.bytes + length text.now ≤ room_bytes }
-        ensures { self.new ≡ record { bytes = self.old.bytes ++ text.now; failed = self.old.failed } }
+        ensures { self.new
+            ≡ record { bytes = self.old.bytes ++ text.now; failed = self.old.failed } }
     {
         keep(&mut self.held, self.len, text);
         self.len += text.len();
@@ -115,7 +117,9 @@ impl TextBuffer {
 
     /// Puts what waits, where no fault came before.
     fn put_waiting<K: Sink>(&mut self, sink: &mut K)
-        ensures same { (start : SinkState) (text : List ℕ) → IsAt start (K.state sink.old) self.old text → IsAt start (K.state sink.new) self.new text }
+        ensures same { (start : SinkState) (text : List ℕ)
+            → IsAt start (K.state sink.old) self.old text
+            → IsAt start (K.state sink.new) self.new text }
         ensures none { self.new.bytes ≡ [] }
     {
         let waiting = &self.held[..self.len];

@@ -22,7 +22,8 @@ fn put_span<K: Sink>(page: &mut TextBuffer, sink: &mut K, span: Span)
 
 /// A whole number in decimal digits, with a minus where it is below 0.
 fn put_int<K: Sink>(page: &mut TextBuffer, sink: &mut K, number: i128)
-    ensures { GoesOn (K.state sink.old) page.old (K.state sink.new) page.new (signed_decimal number) }
+    ensures { GoesOn (K.state sink.old) page.old (K.state sink.new) page.new
+        (signed_decimal number) }
 {
     let mut digits = Buffer::new();
     page.text(sink, digits.format(number).as_bytes());
@@ -81,7 +82,8 @@ fn put_kind<K: Sink>(page: &mut TextBuffer, sink: &mut K, kind: TokenKind)
 
 /// The line of a token.
 fn put_token<K: Sink>(page: &mut TextBuffer, sink: &mut K, token: &Token)
-    ensures { GoesOn (K.state sink.old) page.old (K.state sink.new) page.new (token_line token.now) }
+    ensures { GoesOn (K.state sink.old) page.old (K.state sink.new) page.new
+        (token_line token.now) }
 {
     put_span(page, sink, token.span);
     page.text(sink, b" ");

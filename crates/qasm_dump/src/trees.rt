@@ -480,7 +480,8 @@ fn put_params(out: &mut Vec<u8>, each: &[Param]) -> Result<(), AllocError>
 /// Operands with commas between, after a blank where there are some.
 #[cycle(writing)]
 fn put_operands(out: &mut Vec<u8>, each: &[Operand]) -> Result<(), AllocError>
-    ensures { OnOk result (out.new.items ≡ operands_after (map write_operand each.now) out.old.items) }
+    ensures { OnOk result
+        (out.new.items ≡ operands_after (map write_operand each.now) out.old.items) }
 {
     let Some((first, others)) = each.split_first() else {
         return Ok(());
@@ -534,7 +535,8 @@ fn put_items(out: &mut Vec<u8>, each: &[Item]) -> Result<(), AllocError>
 /// An expression in square brackets, where there is one.
 #[cycle(writing)]
 fn put_in_square_if(out: &mut Vec<u8>, each: &Option<Boxed<Expr>>) -> Result<(), AllocError>
-    ensures { OnOk result (out.new.items ≡ in_square_if (option_map write_expr each.now) out.old.items) }
+    ensures { OnOk result
+        (out.new.items ≡ in_square_if (option_map write_expr each.now) out.old.items) }
 {
     match each {
         Some(part) => {
@@ -549,7 +551,8 @@ fn put_in_square_if(out: &mut Vec<u8>, each: &Option<Boxed<Expr>>) -> Result<(),
 /// A size or a time in square brackets, where there is one.
 #[cycle(writing)]
 fn put_size_if(out: &mut Vec<u8>, each: &Option<Expr>) -> Result<(), AllocError>
-    ensures { OnOk result (out.new.items ≡ in_square_if (option_map write_expr each.now) out.old.items) }
+    ensures { OnOk result
+        (out.new.items ≡ in_square_if (option_map write_expr each.now) out.old.items) }
 {
     match each {
         Some(part) => {
@@ -564,7 +567,8 @@ fn put_size_if(out: &mut Vec<u8>, each: &Option<Expr>) -> Result<(), AllocError>
 /// An expression in round brackets, where there is one.
 #[cycle(writing)]
 fn put_in_round_if(out: &mut Vec<u8>, each: &Option<Expr>) -> Result<(), AllocError>
-    ensures { OnOk result (out.new.items ≡ in_round_if (option_map write_expr each.now) out.old.items) }
+    ensures { OnOk result
+        (out.new.items ≡ in_round_if (option_map write_expr each.now) out.old.items) }
 {
     match each {
         Some(part) => {
@@ -579,7 +583,8 @@ fn put_in_round_if(out: &mut Vec<u8>, each: &Option<Expr>) -> Result<(), AllocEr
 /// The step of an interval, where there is one.
 #[cycle(writing)]
 fn put_step_if(out: &mut Vec<u8>, each: &Option<Boxed<Expr>>) -> Result<(), AllocError>
-    ensures { OnOk result (out.new.items ≡ after_if (codes ":") (option_map write_expr each.now) out.old.items) }
+    ensures { OnOk result
+        (out.new.items ≡ after_if (codes ":") (option_map write_expr each.now) out.old.items) }
 {
     match each {
         Some(part) => {
@@ -593,7 +598,8 @@ fn put_step_if(out: &mut Vec<u8>, each: &Option<Boxed<Expr>>) -> Result<(), Allo
 /// Where a measurement goes, where that stands there.
 #[cycle(writing)]
 fn put_to_if(out: &mut Vec<u8>, each: &Option<Place>) -> Result<(), AllocError>
-    ensures { OnOk result (out.new.items ≡ after_if (codes " -> ") (option_map write_place each.now) out.old.items) }
+    ensures { OnOk result
+        (out.new.items ≡ after_if (codes " -> ") (option_map write_place each.now) out.old.items) }
 {
     match each {
         Some(part) => {
@@ -607,7 +613,8 @@ fn put_to_if(out: &mut Vec<u8>, each: &Option<Place>) -> Result<(), AllocError>
 /// What is done else, where that stands there.
 #[cycle(writing)]
 fn put_else_if(out: &mut Vec<u8>, each: &Option<Body>) -> Result<(), AllocError>
-    ensures { OnOk result (out.new.items ≡ after_if (codes " else ") (option_map write_body each.now) out.old.items) }
+    ensures { OnOk result
+        (out.new.items ≡ after_if (codes " else ") (option_map write_body each.now) out.old.items) }
 {
     match each {
         Some(part) => {

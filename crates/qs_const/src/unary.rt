@@ -10,7 +10,8 @@ use qs_values::{Frac, Num};
 
 /// What `-` gives for a number.
 fn negative(x: &Num) -> Result<ConstVal, Cause>
-    ensures { GivesNumber (pos 0 -ℤ x.now.plain.num) x.now.plain.den (pos 0 -ℤ x.now.pi.num) x.now.pi.den result }
+    ensures { GivesNumber (pos 0 -ℤ x.now.plain.num) x.now.plain.den
+        (pos 0 -ℤ x.now.pi.num) x.now.pi.den result }
 {
     let zero = Num {
         plain: Frac::whole(0),

@@ -42,7 +42,8 @@ pub fn count(y: &Num) -> Option<u32>
 /// What a number that is no count gives as one: `TooWide` where it is whole, and else no rule.
 pub fn no_count(y: &Num) -> Result<ConstVal, Cause>
     requires { IsNotWhole y.now ⊎ IsNoCount y.now }
-    ensures { (IsNoCount y.now × (result ≡ Err (OfNumber TooWide))) ⊎ (IsNotWhole y.now × (result ≡ Err NoRule)) }
+    ensures { (IsNoCount y.now × (result ≡ Err (OfNumber TooWide)))
+        ⊎ (IsNotWhole y.now × (result ≡ Err NoRule)) }
 {
     match whole(y) {
         Some(_) => Err(Cause::Number(NumRefusal::TooWide)),

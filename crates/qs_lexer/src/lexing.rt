@@ -36,7 +36,8 @@ fn readable(bytes: &[u8]) -> (&str, &[u8])
 /// What a piece gives: nothing for a gap, the kind of a token for a lexeme, or its fault.
 fn kind_at(place: Span, shape: Shape, piece: &str) -> Result<Option<TokenKind>, LexRefusal>
     requires { length (chars piece.now) ≤ longest_source }
-    ensures { MatchResult result (λ found. GivesKind shape (chars piece.now) found) (λ refusal. (count : ℕ) → IsPieceFault count place shape (chars piece.now) refusal) }
+    ensures { MatchResult result (λ found. GivesKind shape (chars piece.now) found)
+        (λ refusal. (count : ℕ) → IsPieceFault count place shape (chars piece.now) refusal) }
 {
     match shape {
         Shape::Gap => Ok(None),
@@ -59,7 +60,9 @@ fn put(
 ) -> Result<(), LexRefusal>
     requires short { length (chars piece.now) ≤ longest_source }
     requires few { length tokens.old ≤ most_tokens }
-    ensures { MatchResult result (λ _. Adds place shape (chars piece.now) tokens.old tokens.new) (λ refusal. (refusal ≡ OutOfMemory) ⊎ IsPieceFault (length tokens.old) place shape (chars piece.now) refusal) }
+    ensures { MatchResult result (λ _. Adds place shape (chars piece.now) tokens.old tokens.new)
+        (λ refusal. (refusal ≡ OutOfMemory)
+        ⊎ IsPieceFault (length tokens.old) place shape (chars piece.now) refusal) }
 {
     let kind = match kind_at(place, shape, piece) {
         Ok(Some(kind)) => kind,
@@ -80,7 +83,8 @@ fn put(
 
 /// Whether a piece runs up to a byte that belongs to no character.
 fn runs_out(after: &str, tail: &[u8]) -> bool
-    ensures { MatchBool result ((chars after.now ≡ []) × ¬ (tail.now ≡ [])) (IsClear (chars after.now) tail.now) }
+    ensures { MatchBool result ((chars after.now ≡ []) × ¬ (tail.now ≡ []))
+        (IsClear (chars after.now) tail.now) }
 {
     after.is_empty() && !tail.is_empty()
 }

@@ -21,7 +21,8 @@ pub struct Piece<'a> {
 
 /// What the longest piece that begins a text is, and what stands after it.
 fn longest(first: bool, text: &str) -> Option<(Shape, &str)>
-    ensures value { option_map (λ f. (f.0, chars f.1.now)) result ≡ longest_from (Start first) (chars text.now) }
+    ensures value { option_map (λ f. (f.0, chars f.1.now)) result
+        ≡ longest_from (Start first) (chars text.now) }
     ensures behind { IfSome result (λ f. IsBehind text.now f.1.now) }
 {
     let mut state = State::Start(first);
@@ -44,7 +45,8 @@ fn longest(first: bool, text: &str) -> Option<(Shape, &str)>
 
 /// The longest piece that begins a text, of any characters.
 fn any_piece(first: bool, text: &str) -> Option<Piece<'_>>
-    ensures piece { MatchOption result (BeginsNothing first (chars text.now)) (λ p. Begins first text.now p.shape p.text.now p.after.now) }
+    ensures piece { MatchOption result (BeginsNothing first (chars text.now))
+        (λ p. Begins first text.now p.shape p.text.now p.after.now) }
     ensures in_line { IfSome result (λ p. IsInLine p.in_line p.text.now) }
 {
     let (shape, after) = longest(first, text)?;
@@ -59,7 +61,8 @@ fn any_piece(first: bool, text: &str) -> Option<Piece<'_>>
 
 /// The longest piece that begins a text.
 pub fn next_piece(first: bool, text: &str) -> Option<Piece<'_>>
-    ensures piece { MatchOption result (BeginsNothing first (chars text.now)) (λ p. Begins first text.now p.shape p.text.now p.after.now) }
+    ensures piece { MatchOption result (BeginsNothing first (chars text.now))
+        (λ p. Begins first text.now p.shape p.text.now p.after.now) }
     ensures in_line { IfSome result (λ p. IsInLine p.in_line p.text.now) }
 {
     let Some((shape, count, in_line)) = ascii_piece(first, text.as_bytes()) else {

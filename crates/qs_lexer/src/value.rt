@@ -74,7 +74,8 @@ fn behind_two(base: u32, text: &str) -> u128
 
 /// The value of a whole number with this second character, cut to `WHOLE_BOUND`.
 fn based_value(text: &str, letter: char) -> u128
-    ensures { result ≡ min (based_value (chars text.now) letter (drop 2 (chars text.now))) WHOLE_BOUND }
+    ensures { result
+        ≡ min (based_value (chars text.now) letter (drop 2 (chars text.now))) WHOLE_BOUND }
 {
     match letter {
         'x' | 'X' => behind_two(16, text),
@@ -215,7 +216,8 @@ fn scaled(text: &str) -> u128
 /// limit.
 fn cut(text: &str) -> Option<Frac>
     requires { length (chars text.now) ≤ longest_source }
-    ensures { MatchOption result (IsWide (pos (scaled (chars text.now))) (pos (10 ^ 17))) (λ f. IsCutOf (chars text.now) f) }
+    ensures { MatchOption result (IsWide (pos (scaled (chars text.now))) (pos (10 ^ 17)))
+        (λ f. IsCutOf (chars text.now) f) }
 {
     let value = scaled(text);
     if value == CAP {
@@ -231,7 +233,8 @@ fn cut(text: &str) -> Option<Frac>
 pub fn kind_of(shape: Shape, text: &str) -> Option<TokenKind>
     requires lexeme { IsLexeme shape }
     requires short { length (chars text.now) ≤ longest_source }
-    ensures { MatchOption result (IsTooWide shape (chars text.now)) (λ kind. KindIs shape (chars text.now) kind) }
+    ensures { MatchOption result (IsTooWide shape (chars text.now))
+        (λ kind. KindIs shape (chars text.now) kind) }
 {
     match shape {
         Shape::Physical => match u32::try_from(decimal_value(text)) {

@@ -17,7 +17,8 @@ use std::alloc::Global;
 
 /// What is told of a family that is wrong in its form.
 fn wrong_family(alloc: Global, family: &str) -> Result<MachineRefusal, Memory>
-    ensures { IfOk result (λ refusal. refusal ≡ MachineRefusal.FieldWrong Field.Families (Part.Family family.now)) }
+    ensures { IfOk result
+        (λ refusal. refusal ≡ MachineRefusal.FieldWrong Field.Families (Part.Family family.now)) }
 {
     let name = Name::copy_of(alloc, family)?;
     Ok(MachineRefusal::FieldWrong {
@@ -40,7 +41,8 @@ fn texts_of<'v>(
     family: &str,
     value: &'v Value,
 ) -> Result<List<&'v str>, MachineRefusal>
-    ensures { IsUnlessMemory OutOfMemory (texts_of family.now (view value.now)) (result_map (map (λ s. s.now)) result) }
+    ensures { IsUnlessMemory OutOfMemory (texts_of family.now (view value.now))
+        (result_map (map (λ s. s.now)) result) }
 {
     let Some(entries) = array_in(value) else {
         return Err(wrong_family(alloc, family)?);
@@ -79,7 +81,8 @@ fn member_of(
 ) -> Option<u16>
     requires few { length frames.now ≤ 256 }
     requires named { names.now ≡ map (λ f. f.name) frames.now }
-    ensures { result ≡ passing (reaches_alone ports.now frames.now qubit) (place_of text.now (map (λ f. f.name) frames.now)) }
+    ensures { result ≡ passing (reaches_alone ports.now frames.now qubit)
+        (place_of text.now (map (λ f. f.name) frames.now)) }
 {
     match names.place_of(text) {
         Some(frame) if reaches_alone(ports, frames, qubit, frame) => Some(frame as u16),
@@ -98,7 +101,8 @@ fn members_of(
 ) -> Result<List<u16>, MachineRefusal>
     requires few { length frames.now ≤ 256 }
     requires named { names.now ≡ map (λ f. f.name) frames.now }
-    ensures { IsUnlessMemory OutOfMemory (members_of ports.now frames.now family.now (map (λ s. s.now) texts.now)) result }
+    ensures { IsUnlessMemory OutOfMemory
+        (members_of ports.now frames.now family.now (map (λ s. s.now) texts.now)) result }
 {
     let mut members = List::new(alloc);
     for text in texts {
@@ -151,7 +155,8 @@ pub fn families_of(
 ) -> Result<List<Family>, MachineRefusal>
     requires few { length frames.now ≤ 256 }
     requires named { names.now ≡ map (λ f. f.name) frames.now }
-    ensures value { IsUnlessMemory OutOfMemory (families_of qubits ports.now frames.now (view table.now)) result }
+    ensures value { IsUnlessMemory OutOfMemory
+        (families_of qubits ports.now frames.now (view table.now)) result }
     ensures order { IfOk result (λ families. AreInByteOrder (map (λ f. f.name) families)) }
 {
     let mut families = List::new(alloc);

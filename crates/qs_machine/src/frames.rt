@@ -31,7 +31,8 @@ fn frame_of(
 ) -> Result<FrameStart, MachineRefusal>
     requires few { length ports.now ≤ 96 }
     requires named { names.now ≡ map (λ f. f.name) before.now }
-    ensures value { IsUnlessMemory OutOfMemory (frame_of ports.now before.now (view entry.now)) result }
+    ensures value { IsUnlessMemory OutOfMemory
+        (frame_of ports.now before.now (view entry.now)) result }
     ensures fresh { IfOk result (λ f. is_among f.name names.now ≡ false) }
 {
     let number = before.len();
@@ -75,7 +76,8 @@ pub fn frames_of(
     table: &Value,
 ) -> Result<(List<FrameStart>, Names), MachineRefusal>
     requires few { length ports.now ≤ 96 }
-    ensures value { IsUnlessMemory OutOfMemory (frames_of ports.now (view table.now)) (result_map (λ p. p.0) result) }
+    ensures value { IsUnlessMemory OutOfMemory (frames_of ports.now (view table.now))
+        (result_map (λ p. p.0) result) }
     ensures named { IfOk result (λ p. p.1 ≡ map (λ f. f.name) p.0) }
     ensures counted { IfOk result (λ p. length p.0 ≤ 256) }
 {

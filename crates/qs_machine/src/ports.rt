@@ -74,7 +74,8 @@ fn port_of(
 ) -> Result<Port, MachineRefusal>
     requires few { controllers ≤ 16 }
     requires named { names.now ≡ map (λ p. p.name) before.now }
-    ensures value { IsUnlessMemory OutOfMemory (port_of qubits controllers before.now (view entry.now)) result }
+    ensures value { IsUnlessMemory OutOfMemory
+        (port_of qubits controllers before.now (view entry.now)) result }
     ensures fresh { IfOk result (λ p. is_among p.name names.now ≡ false) }
 {
     let number = before.len();
@@ -113,7 +114,8 @@ pub fn ports_of(
     table: &Value,
 ) -> Result<(List<Port>, Names), MachineRefusal>
     requires few { controllers ≤ 16 }
-    ensures value { IsUnlessMemory OutOfMemory (ports_of qubits controllers (view table.now)) (result_map (λ p. p.0) result) }
+    ensures value { IsUnlessMemory OutOfMemory (ports_of qubits controllers (view table.now))
+        (result_map (λ p. p.0) result) }
     ensures named { IfOk result (λ p. p.1 ≡ map (λ port. port.name) p.0) }
     ensures few { IfOk result (λ p. length p.1 ≤ 96) }
 {

@@ -30,7 +30,8 @@ fn qubit_keys(alloc: Global, qubits: u8) -> Result<Names, Memory>
 
 /// The value of a field, which may be missing and else is an object.
 fn object_at(tape: &Value, field: TapeField) -> Result<Option<&Map<String, Value>>, TapeRefusal>
-    ensures { result_map (λ found. option_map_or (λ m. entries_of (members_view m.now.entries)) found []) result
+    ensures { result_map
+        (λ found. option_map_or (λ m. entries_of (members_view m.now.entries)) found []) result
         ≡ object_at field (view tape.now) }
 {
     let Some(value) = tape.get(field.key()) else {
@@ -193,7 +194,8 @@ fn value_in(value: &Value, ty: Ty) -> Option<u64>
 
 /// The value of an input.
 fn input_of(alloc: Global, tape: &Value, input: &Input) -> Result<u64, TapeRefusal>
-    ensures value { (before : PureList ℕ) → IsUnlessMemory OutOfMemory (input_of (view tape.now) before input.now) result }
+    ensures value { (before : PureList ℕ)
+        → IsUnlessMemory OutOfMemory (input_of (view tape.now) before input.now) result }
     ensures fits { IfOk result (λ n. n < 2 ^ input.now.ty.width) }
 {
     let name = input.name.as_str();

@@ -61,7 +61,8 @@ fn assigned<F: Fn(Ask) -> Result<Read<Tree>, Stop>>(
 ) -> Result<Read<StmtKind>, Stop>
     requires callable { F.IsAlwaysCallable deeper.now.read }
     requires exact { IsExact (F.post deeper.now.read) deeper.now.depth deeper.now.tokens.now }
-    ensures { Gives (seen deeper.now.tokens.now) result (assigned (below deeper.now.depth) place renew left (drop at deeper.now.tokens.now)) }
+    ensures { Gives (seen deeper.now.tokens.now) result
+        (assigned (below deeper.now.depth) place renew left (drop at deeper.now.tokens.now)) }
 {
     let Read { item, left, at } = value_at(deeper, renew, left, at)?;
     let at = stopped(deeper.tokens, at)?;
@@ -83,7 +84,8 @@ fn updated<F: Fn(Ask) -> Result<Read<Tree>, Stop>>(
 ) -> Result<Read<StmtKind>, Stop>
     requires callable { F.IsAlwaysCallable deeper.now.read }
     requires exact { IsExact (F.post deeper.now.read) deeper.now.depth deeper.now.tokens.now }
-    ensures { Gives (seen deeper.now.tokens.now) result (updated (below deeper.now.depth) place renew left (drop at deeper.now.tokens.now)) }
+    ensures { Gives (seen deeper.now.tokens.now) result
+        (updated (below deeper.now.depth) place renew left (drop at deeper.now.tokens.now)) }
 {
     let (op, at) = assign_op_at(deeper.tokens, at)?;
     let Read { item, left, at } = whole_at(deeper, renew, left, at)?;
@@ -105,7 +107,8 @@ pub fn assignment_at<F: Fn(Ask) -> Result<Read<Tree>, Stop>>(
 ) -> Result<Read<StmtKind>, Stop>
     requires callable { F.IsAlwaysCallable deeper.now.read }
     requires exact { IsExact (F.post deeper.now.read) deeper.now.depth deeper.now.tokens.now }
-    ensures { Gives (seen deeper.now.tokens.now) result (assignment_at (below deeper.now.depth) renew left (drop at deeper.now.tokens.now)) }
+    ensures { Gives (seen deeper.now.tokens.now) result
+        (assignment_at (below deeper.now.depth) renew left (drop at deeper.now.tokens.now)) }
 {
     let Read { item, left, at } = place_at(deeper, renew, left, at)?;
     match past_sign(deeper.tokens, at, "=") {

@@ -61,7 +61,8 @@ pub struct Below<'a, F> {
 
 /// The expression of an answer.
 fn as_expr(answer: Result<Read<Tree>, Stop>) -> Result<Read<Expr>, Stop>
-    ensures { (tokens : PureList TokenValue) (account : Reads ExprValue) → Gives (seen tokens) answer (as_tree ExprTree account)
+    ensures { (tokens : PureList TokenValue) (account : Reads ExprValue)
+        → Gives (seen tokens) answer (as_tree ExprTree account)
         → Gives (seen tokens) result account }
 {
     let Read { item, left, at } = answer?;
@@ -78,7 +79,8 @@ fn as_expr(answer: Result<Read<Tree>, Stop>) -> Result<Read<Expr>, Stop>
 
 /// The statement of an answer.
 fn as_stmt(answer: Result<Read<Tree>, Stop>) -> Result<Read<Stmt>, Stop>
-    ensures { (tokens : PureList TokenValue) (account : Reads StmtValue) → Gives (seen tokens) answer (as_tree StmtTree account)
+    ensures { (tokens : PureList TokenValue) (account : Reads StmtValue)
+        → Gives (seen tokens) answer (as_tree StmtTree account)
         → Gives (seen tokens) result account }
 {
     let Read { item, left, at } = answer?;
@@ -95,7 +97,8 @@ fn as_stmt(answer: Result<Read<Tree>, Stop>) -> Result<Read<Stmt>, Stop>
 
 /// The statements of an answer.
 fn as_stmts(answer: Result<Read<Tree>, Stop>) -> Result<Read<List<Stmt>>, Stop>
-    ensures { (tokens : PureList TokenValue) (account : Reads (PureList StmtValue)) → Gives (seen tokens) answer (as_tree StmtsTree account)
+    ensures { (tokens : PureList TokenValue) (account : Reads (PureList StmtValue))
+        → Gives (seen tokens) answer (as_tree StmtsTree account)
         → Gives (seen tokens) result account }
 {
     let Read { item, left, at } = answer?;
@@ -115,7 +118,8 @@ impl<'a, F: Fn(Ask) -> Result<Read<Tree>, Stop>> Below<'a, F> {
     fn answer(&self, ask: Ask) -> Result<Read<Tree>, Stop>
         requires callable { F.IsAlwaysCallable self.now.read }
         requires exact { IsExact (F.post self.now.read) self.now.depth self.now.tokens.now }
-        ensures { Gives (seen self.now.tokens.now) result (answered (below self.now.depth) ask self.now.tokens.now) }
+        ensures { Gives (seen self.now.tokens.now) result
+            (answered (below self.now.depth) ask self.now.tokens.now) }
     {
         if self.depth == 0 {
             return Err(Stop::Unread);
@@ -127,7 +131,8 @@ impl<'a, F: Fn(Ask) -> Result<Read<Tree>, Stop>> Below<'a, F> {
     pub fn expr(&self, left: usize, at: usize) -> Result<Read<Expr>, Stop>
         requires callable { F.IsAlwaysCallable self.now.read }
         requires exact { IsExact (F.post self.now.read) self.now.depth self.now.tokens.now }
-        ensures { Gives (seen self.now.tokens.now) result (deeper_expr (below self.now.depth) left (drop at self.now.tokens.now)) }
+        ensures { Gives (seen self.now.tokens.now) result
+            (deeper_expr (below self.now.depth) left (drop at self.now.tokens.now)) }
     {
         as_expr(self.answer(Ask {
             wanted: Wanted::Expression,
@@ -141,7 +146,8 @@ impl<'a, F: Fn(Ask) -> Result<Read<Tree>, Stop>> Below<'a, F> {
     pub fn whole(&self, renew: usize, left: usize, at: usize) -> Result<Read<Expr>, Stop>
         requires callable { F.IsAlwaysCallable self.now.read }
         requires exact { IsExact (F.post self.now.read) self.now.depth self.now.tokens.now }
-        ensures { Gives (seen self.now.tokens.now) result (deeper_whole (below self.now.depth) renew left (drop at self.now.tokens.now)) }
+        ensures { Gives (seen self.now.tokens.now) result
+            (deeper_whole (below self.now.depth) renew left (drop at self.now.tokens.now)) }
     {
         let Read { item, left, at } = self.expr(left, at)?;
         let left = left.max(renew);
@@ -152,7 +158,8 @@ impl<'a, F: Fn(Ask) -> Result<Read<Tree>, Stop>> Below<'a, F> {
     pub fn unary(&self, left: usize, at: usize) -> Result<Read<Expr>, Stop>
         requires callable { F.IsAlwaysCallable self.now.read }
         requires exact { IsExact (F.post self.now.read) self.now.depth self.now.tokens.now }
-        ensures { Gives (seen self.now.tokens.now) result (deeper_unary (below self.now.depth) left (drop at self.now.tokens.now)) }
+        ensures { Gives (seen self.now.tokens.now) result
+            (deeper_unary (below self.now.depth) left (drop at self.now.tokens.now)) }
     {
         as_expr(self.answer(Ask {
             wanted: Wanted::Unary,
@@ -166,7 +173,8 @@ impl<'a, F: Fn(Ask) -> Result<Read<Tree>, Stop>> Below<'a, F> {
     pub fn stmt(&self, renew: usize, left: usize, at: usize) -> Result<Read<Stmt>, Stop>
         requires callable { F.IsAlwaysCallable self.now.read }
         requires exact { IsExact (F.post self.now.read) self.now.depth self.now.tokens.now }
-        ensures { Gives (seen self.now.tokens.now) result (deeper_stmt (below self.now.depth) renew left (drop at self.now.tokens.now)) }
+        ensures { Gives (seen self.now.tokens.now) result
+            (deeper_stmt (below self.now.depth) renew left (drop at self.now.tokens.now)) }
     {
         as_stmt(self.answer(Ask {
             wanted: Wanted::Statement,
@@ -180,7 +188,8 @@ impl<'a, F: Fn(Ask) -> Result<Read<Tree>, Stop>> Below<'a, F> {
     pub fn nested(&self, renew: usize, left: usize, at: usize) -> Result<Read<Stmt>, Stop>
         requires callable { F.IsAlwaysCallable self.now.read }
         requires exact { IsExact (F.post self.now.read) self.now.depth self.now.tokens.now }
-        ensures { Gives (seen self.now.tokens.now) result (deeper_nested (below self.now.depth) renew left (drop at self.now.tokens.now)) }
+        ensures { Gives (seen self.now.tokens.now) result
+            (deeper_nested (below self.now.depth) renew left (drop at self.now.tokens.now)) }
     {
         as_stmt(self.answer(Ask {
             wanted: Wanted::Nested,
@@ -194,7 +203,8 @@ impl<'a, F: Fn(Ask) -> Result<Read<Tree>, Stop>> Below<'a, F> {
     pub fn block(&self, renew: usize, left: usize, at: usize) -> Result<Read<List<Stmt>>, Stop>
         requires callable { F.IsAlwaysCallable self.now.read }
         requires exact { IsExact (F.post self.now.read) self.now.depth self.now.tokens.now }
-        ensures { Gives (seen self.now.tokens.now) result (deeper_block (below self.now.depth) renew left (drop at self.now.tokens.now)) }
+        ensures { Gives (seen self.now.tokens.now) result
+            (deeper_block (below self.now.depth) renew left (drop at self.now.tokens.now)) }
     {
         as_stmts(self.answer(Ask {
             wanted: Wanted::Block,

@@ -63,7 +63,8 @@ fn free_at<F: Fn(Ask) -> Result<Read<Tree>, Stop>>(
 ) -> Result<Read<Param>, Stop>
     requires callable { F.IsAlwaysCallable deeper.now.read }
     requires exact { IsExact (F.post deeper.now.read) deeper.now.depth deeper.now.tokens.now }
-    ensures { Gives (seen deeper.now.tokens.now) result (free_at (below deeper.now.depth) renew left (drop at deeper.now.tokens.now)) }
+    ensures { Gives (seen deeper.now.tokens.now) result
+        (free_at (below deeper.now.depth) renew left (drop at deeper.now.tokens.now)) }
 {
     let type_expr = type_at(deeper, renew, left, at)?;
     let (name, at) = name_at(deeper.alloc, deeper.tokens, type_expr.at)?;
@@ -84,7 +85,8 @@ fn fixed_at<F: Fn(Ask) -> Result<Read<Tree>, Stop>>(
 ) -> Result<Read<Param>, Stop>
     requires callable { F.IsAlwaysCallable deeper.now.read }
     requires exact { IsExact (F.post deeper.now.read) deeper.now.depth deeper.now.tokens.now }
-    ensures { Gives (seen deeper.now.tokens.now) result (fixed_at (below deeper.now.depth) renew left (drop at deeper.now.tokens.now)) }
+    ensures { Gives (seen deeper.now.tokens.now) result
+        (fixed_at (below deeper.now.depth) renew left (drop at deeper.now.tokens.now)) }
 {
     let Read { item, left, at } = whole_at(deeper, renew, left, at)?;
     Ok(Read {
@@ -104,7 +106,8 @@ fn param_at<F: Fn(Ask) -> Result<Read<Tree>, Stop>>(
 ) -> Result<Read<Param>, Stop>
     requires callable { F.IsAlwaysCallable deeper.now.read }
     requires exact { IsExact (F.post deeper.now.read) deeper.now.depth deeper.now.tokens.now }
-    ensures { Gives (seen deeper.now.tokens.now) result (param_at (below deeper.now.depth) renew left (drop at deeper.now.tokens.now)) }
+    ensures { Gives (seen deeper.now.tokens.now) result
+        (param_at (below deeper.now.depth) renew left (drop at deeper.now.tokens.now)) }
 {
     match free_at(deeper, renew, left, at) {
         Ok(read) => Ok(read),
@@ -123,7 +126,9 @@ fn params_to<F: Fn(Ask) -> Result<Read<Tree>, Stop>>(
 ) -> Result<Read<Option<List<Param>>>, Stop>
     requires callable { F.IsAlwaysCallable deeper.now.read }
     requires exact { IsExact (F.post deeper.now.read) deeper.now.depth deeper.now.tokens.now }
-    ensures { Gives (seen deeper.now.tokens.now) result (params_to (after_sign (codes ")") (drop at deeper.now.tokens.now)) (below deeper.now.depth) renew left (drop at deeper.now.tokens.now)) }
+    ensures { Gives (seen deeper.now.tokens.now) result
+        (params_to (after_sign (codes ")") (drop at deeper.now.tokens.now))
+        (below deeper.now.depth) renew left (drop at deeper.now.tokens.now)) }
 {
     if let Some(at) = past_sign(deeper.tokens, at, ")") {
         return Ok(Read {
@@ -156,14 +161,17 @@ fn params_below(
     left: usize,
     at: usize,
 ) -> Result<Read<Option<List<Param>>>, Stop>
-    ensures { Gives (seen tokens.now) result (params_to (after_sign (codes ")") (drop at tokens.now)) (below depth) renew left (drop at tokens.now)) }
+    ensures { Gives (seen tokens.now) result
+        (params_to (after_sign (codes ")") (drop at tokens.now)) (below depth) renew left
+        (drop at tokens.now)) }
 {
     let deeper = Below {
         alloc,
         tokens,
         depth,
         read: |ask: Ask| -> Result<Read<Tree>, Stop>
-            ensures { Gives (seen tokens.entry.now) result (answered (below depth) ask tokens.entry.now) }
+            ensures { Gives (seen tokens.entry.now) result
+                (answered (below depth) ask tokens.entry.now) }
         { answer_at(alloc, tokens, depth, ask) },
     };
     params_to(&deeper, renew, left, at)
@@ -250,14 +258,16 @@ fn operands_below(
     left: usize,
     at: usize,
 ) -> Result<Read<List<Operand>>, Stop>
-    ensures { Gives (seen tokens.now) result (operands_at (below depth) renew left (drop at tokens.now)) }
+    ensures { Gives (seen tokens.now) result
+        (operands_at (below depth) renew left (drop at tokens.now)) }
 {
     let deeper = Below {
         alloc,
         tokens,
         depth,
         read: |ask: Ask| -> Result<Read<Tree>, Stop>
-            ensures { Gives (seen tokens.entry.now) result (answered (below depth) ask tokens.entry.now) }
+            ensures { Gives (seen tokens.entry.now) result
+                (answered (below depth) ask tokens.entry.now) }
         { answer_at(alloc, tokens, depth, ask) },
     };
     operands_at(&deeper, renew, left, at)

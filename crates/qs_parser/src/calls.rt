@@ -42,7 +42,8 @@ fn pow_at<F: Fn(Ask) -> Result<Read<Tree>, Stop>>(
 ) -> Result<Read<Modifier>, Stop>
     requires callable { F.IsAlwaysCallable deeper.now.read }
     requires exact { IsExact (F.post deeper.now.read) deeper.now.depth deeper.now.tokens.now }
-    ensures { Gives (seen deeper.now.tokens.now) result (pow_at (below deeper.now.depth) renew left (drop at deeper.now.tokens.now)) }
+    ensures { Gives (seen deeper.now.tokens.now) result
+        (pow_at (below deeper.now.depth) renew left (drop at deeper.now.tokens.now)) }
 {
     let Read { item, left, at } = enclosed(deeper, "(", ")", renew, left, at)?;
     signed_off(deeper.tokens, Modifier::Pow(item), left, at)
@@ -58,7 +59,8 @@ fn ctrl_at<F: Fn(Ask) -> Result<Read<Tree>, Stop>>(
 ) -> Result<Read<Modifier>, Stop>
     requires callable { F.IsAlwaysCallable deeper.now.read }
     requires exact { IsExact (F.post deeper.now.read) deeper.now.depth deeper.now.tokens.now }
-    ensures { Gives (seen deeper.now.tokens.now) result (ctrl_at (below deeper.now.depth) renew left (drop at deeper.now.tokens.now)) }
+    ensures { Gives (seen deeper.now.tokens.now) result
+        (ctrl_at (below deeper.now.depth) renew left (drop at deeper.now.tokens.now)) }
 {
     let Read { item, left, at } = count_at(deeper, renew, left, at)?;
     signed_off(deeper.tokens, Modifier::Ctrl(item), left, at)
@@ -74,7 +76,8 @@ fn negctrl_at<F: Fn(Ask) -> Result<Read<Tree>, Stop>>(
 ) -> Result<Read<Modifier>, Stop>
     requires callable { F.IsAlwaysCallable deeper.now.read }
     requires exact { IsExact (F.post deeper.now.read) deeper.now.depth deeper.now.tokens.now }
-    ensures { Gives (seen deeper.now.tokens.now) result (negctrl_at (below deeper.now.depth) renew left (drop at deeper.now.tokens.now)) }
+    ensures { Gives (seen deeper.now.tokens.now) result
+        (negctrl_at (below deeper.now.depth) renew left (drop at deeper.now.tokens.now)) }
 {
     let Read { item, left, at } = count_at(deeper, renew, left, at)?;
     signed_off(deeper.tokens, Modifier::NegCtrl(item), left, at)
@@ -98,7 +101,8 @@ fn modifier_of<F: Fn(Ask) -> Result<Read<Tree>, Stop>>(
 ) -> Result<Read<Modifier>, Stop>
     requires callable { F.IsAlwaysCallable deeper.now.read }
     requires exact { IsExact (F.post deeper.now.read) deeper.now.depth deeper.now.tokens.now }
-    ensures { Gives (seen deeper.now.tokens.now) result (modifier_of (below deeper.now.depth) renew left text.now (drop at deeper.now.tokens.now)) }
+    ensures { Gives (seen deeper.now.tokens.now) result
+        (modifier_of (below deeper.now.depth) renew left text.now (drop at deeper.now.tokens.now)) }
 {
     if text == "inv" {
         signed_off(deeper.tokens, Modifier::Inv, left, at)
@@ -113,7 +117,8 @@ fn modifier_of<F: Fn(Ask) -> Result<Read<Tree>, Stop>>(
 
 /// The word of a modifier, and the place after it.
 fn modifier_word(tokens: &[Token], at: usize) -> Option<(&str, usize)>
-    ensures { option_map (λ w. (w.0.now, drop w.1 tokens.now)) result ≡ modifier_word (drop at tokens.now) }
+    ensures { option_map (λ w. (w.0.now, drop w.1 tokens.now)) result
+        ≡ modifier_word (drop at tokens.now) }
 {
     let token = tokens.get(at)?;
     let _count = tokens.len();
@@ -138,7 +143,9 @@ fn modifiers_at<F: Fn(Ask) -> Result<Read<Tree>, Stop>>(
 ) -> Result<Read<List<Modifier>>, Stop>
     requires callable { F.IsAlwaysCallable deeper.now.read }
     requires exact { IsExact (F.post deeper.now.read) deeper.now.depth deeper.now.tokens.now }
-    ensures { Gives (seen deeper.now.tokens.now) result (modifiers_at (length (drop at deeper.now.tokens.now)) (below deeper.now.depth) renew left (drop at deeper.now.tokens.now)) }
+    ensures { Gives (seen deeper.now.tokens.now) result
+        (modifiers_at (length (drop at deeper.now.tokens.now)) (below deeper.now.depth) renew left
+        (drop at deeper.now.tokens.now)) }
 {
     let mut modifiers = List::new(deeper.alloc);
     for _turn in at..deeper.tokens.len() {
@@ -175,7 +182,8 @@ fn params_at<F: Fn(Ask) -> Result<Read<Tree>, Stop>>(
 ) -> Result<Read<Option<List<Expr>>>, Stop>
     requires callable { F.IsAlwaysCallable deeper.now.read }
     requires exact { IsExact (F.post deeper.now.read) deeper.now.depth deeper.now.tokens.now }
-    ensures { Gives (seen deeper.now.tokens.now) result (params_at (below deeper.now.depth) renew left (drop at deeper.now.tokens.now)) }
+    ensures { Gives (seen deeper.now.tokens.now) result
+        (params_at (below deeper.now.depth) renew left (drop at deeper.now.tokens.now)) }
 {
     if !begins_sign(deeper.tokens, at, "(") {
         return Ok(Read {
@@ -202,7 +210,8 @@ pub fn call_at<F: Fn(Ask) -> Result<Read<Tree>, Stop>>(
 ) -> Result<Read<Call>, Stop>
     requires callable { F.IsAlwaysCallable deeper.now.read }
     requires exact { IsExact (F.post deeper.now.read) deeper.now.depth deeper.now.tokens.now }
-    ensures { Gives (seen deeper.now.tokens.now) result (call_at (below deeper.now.depth) renew left (drop at deeper.now.tokens.now)) }
+    ensures { Gives (seen deeper.now.tokens.now) result
+        (call_at (below deeper.now.depth) renew left (drop at deeper.now.tokens.now)) }
 {
     let modifiers = modifiers_at(deeper, renew, left, at)?;
     let (name, at) = name_at(deeper.alloc, deeper.tokens, modifiers.at)?;

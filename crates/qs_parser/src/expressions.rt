@@ -23,7 +23,8 @@ pub fn closed<F: Fn(Ask) -> Result<Read<Tree>, Stop>>(
 ) -> Result<Read<Expr>, Stop>
     requires callable { F.IsAlwaysCallable deeper.now.read }
     requires exact { IsExact (F.post deeper.now.read) deeper.now.depth deeper.now.tokens.now }
-    ensures { Gives (seen deeper.now.tokens.now) result (closed after.now (below deeper.now.depth) renew left (drop at deeper.now.tokens.now)) }
+    ensures { Gives (seen deeper.now.tokens.now) result
+        (closed after.now (below deeper.now.depth) renew left (drop at deeper.now.tokens.now)) }
 {
     let Read { item, left, at } = deeper.whole(renew, left, at)?;
     let at = after_sign(deeper.tokens, at, after)?;
@@ -42,7 +43,9 @@ pub fn enclosed<F: Fn(Ask) -> Result<Read<Tree>, Stop>>(
 ) -> Result<Read<Expr>, Stop>
     requires callable { F.IsAlwaysCallable deeper.now.read }
     requires exact { IsExact (F.post deeper.now.read) deeper.now.depth deeper.now.tokens.now }
-    ensures { Gives (seen deeper.now.tokens.now) result (enclosed before.now after.now (below deeper.now.depth) renew left (drop at deeper.now.tokens.now)) }
+    ensures { Gives (seen deeper.now.tokens.now) result
+        (enclosed before.now after.now (below deeper.now.depth) renew left
+        (drop at deeper.now.tokens.now)) }
 {
     let at = after_sign(deeper.tokens, at, before)?;
     closed(deeper, after, renew, left, at)
@@ -57,7 +60,8 @@ pub fn args_at<F: Fn(Ask) -> Result<Read<Tree>, Stop>>(
 ) -> Result<Read<List<Expr>>, Stop>
     requires callable { F.IsAlwaysCallable deeper.now.read }
     requires exact { IsExact (F.post deeper.now.read) deeper.now.depth deeper.now.tokens.now }
-    ensures { Gives (seen deeper.now.tokens.now) result (args_at (below deeper.now.depth) renew left (drop at deeper.now.tokens.now)) }
+    ensures { Gives (seen deeper.now.tokens.now) result
+        (args_at (below deeper.now.depth) renew left (drop at deeper.now.tokens.now)) }
 {
     let at = after_sign(deeper.tokens, at, "(")?;
     if deeper.depth == 0 {
@@ -118,7 +122,8 @@ pub fn type_of<F: Fn(Ask) -> Result<Read<Tree>, Stop>>(
 ) -> Result<Read<TypeExpr>, Stop>
     requires callable { F.IsAlwaysCallable deeper.now.read }
     requires exact { IsExact (F.post deeper.now.read) deeper.now.depth deeper.now.tokens.now }
-    ensures { Gives (seen deeper.now.tokens.now) result (type_of (below deeper.now.depth) renew left span word (drop at deeper.now.tokens.now)) }
+    ensures { Gives (seen deeper.now.tokens.now) result
+        (type_of (below deeper.now.depth) renew left span word (drop at deeper.now.tokens.now)) }
 {
     if has_width(word) && begins_sign(deeper.tokens, at, "[") {
         let Read { item, left, at } = enclosed(deeper, "[", "]", renew, left, at)?;
@@ -149,7 +154,8 @@ fn duration_at<F: Fn(Ask) -> Result<Read<Tree>, Stop>>(
 ) -> Result<Read<ExprKind>, Stop>
     requires callable { F.IsAlwaysCallable deeper.now.read }
     requires exact { IsExact (F.post deeper.now.read) deeper.now.depth deeper.now.tokens.now }
-    ensures { Gives (seen deeper.now.tokens.now) result (duration_at (below deeper.now.depth) left (drop at deeper.now.tokens.now)) }
+    ensures { Gives (seen deeper.now.tokens.now) result
+        (duration_at (below deeper.now.depth) left (drop at deeper.now.tokens.now)) }
 {
     let at = after_sign(deeper.tokens, at, "(")?;
     let Read { item, left, at } = deeper.block(0, left, at)?;
@@ -172,7 +178,8 @@ fn cast_at<F: Fn(Ask) -> Result<Read<Tree>, Stop>>(
 ) -> Result<Read<ExprKind>, Stop>
     requires callable { F.IsAlwaysCallable deeper.now.read }
     requires exact { IsExact (F.post deeper.now.read) deeper.now.depth deeper.now.tokens.now }
-    ensures { Gives (seen deeper.now.tokens.now) result (cast_at (below deeper.now.depth) left span word (drop at deeper.now.tokens.now)) }
+    ensures { Gives (seen deeper.now.tokens.now) result
+        (cast_at (below deeper.now.depth) left span word (drop at deeper.now.tokens.now)) }
 {
     let target = type_of(deeper, 0, left, span, word, at)?;
     let operand = enclosed(deeper, "(", ")", 0, target.left, target.at)?;
@@ -193,7 +200,8 @@ fn named_at<F: Fn(Ask) -> Result<Read<Tree>, Stop>>(
 ) -> Result<Read<ExprKind>, Stop>
     requires callable { F.IsAlwaysCallable deeper.now.read }
     requires exact { IsExact (F.post deeper.now.read) deeper.now.depth deeper.now.tokens.now }
-    ensures { Gives (seen deeper.now.tokens.now) result (named_at (below deeper.now.depth) left name.now (drop at deeper.now.tokens.now)) }
+    ensures { Gives (seen deeper.now.tokens.now) result
+        (named_at (below deeper.now.depth) left name.now (drop at deeper.now.tokens.now)) }
 {
     let name = Name::copy_of(deeper.alloc, name)?;
     if begins_sign(deeper.tokens, at, "[") {
@@ -230,7 +238,8 @@ fn word_at<F: Fn(Ask) -> Result<Read<Tree>, Stop>>(
 ) -> Result<Read<ExprKind>, Stop>
     requires callable { F.IsAlwaysCallable deeper.now.read }
     requires exact { IsExact (F.post deeper.now.read) deeper.now.depth deeper.now.tokens.now }
-    ensures { Gives (seen deeper.now.tokens.now) result (word_at (below deeper.now.depth) left span text.now (drop at deeper.now.tokens.now)) }
+    ensures { Gives (seen deeper.now.tokens.now) result
+        (word_at (below deeper.now.depth) left span text.now (drop at deeper.now.tokens.now)) }
 {
     if text == "true" {
         return Ok(Read {
@@ -266,7 +275,8 @@ fn group_at<F: Fn(Ask) -> Result<Read<Tree>, Stop>>(
 ) -> Result<Read<ExprKind>, Stop>
     requires callable { F.IsAlwaysCallable deeper.now.read }
     requires exact { IsExact (F.post deeper.now.read) deeper.now.depth deeper.now.tokens.now }
-    ensures { Gives (seen deeper.now.tokens.now) result (group_at (below deeper.now.depth) left first.now (drop at deeper.now.tokens.now)) }
+    ensures { Gives (seen deeper.now.tokens.now) result
+        (group_at (below deeper.now.depth) left first.now (drop at deeper.now.tokens.now)) }
 {
     if !is_sign(first, "(") {
         return Err(Stop::Unread);
@@ -289,7 +299,8 @@ fn kind_at<F: Fn(Ask) -> Result<Read<Tree>, Stop>>(
 ) -> Result<Read<ExprKind>, Stop>
     requires callable { F.IsAlwaysCallable deeper.now.read }
     requires exact { IsExact (F.post deeper.now.read) deeper.now.depth deeper.now.tokens.now }
-    ensures { Gives (seen deeper.now.tokens.now) result (kind_at (below deeper.now.depth) left first.now (drop at deeper.now.tokens.now)) }
+    ensures { Gives (seen deeper.now.tokens.now) result
+        (kind_at (below deeper.now.depth) left first.now (drop at deeper.now.tokens.now)) }
 {
     let item = match first.kind {
         TokenKind::Word => return word_at(deeper, left, first.span, first.text.as_str(), at),
@@ -312,7 +323,8 @@ pub fn primary<F: Fn(Ask) -> Result<Read<Tree>, Stop>>(
 ) -> Result<Read<Expr>, Stop>
     requires callable { F.IsAlwaysCallable deeper.now.read }
     requires exact { IsExact (F.post deeper.now.read) deeper.now.depth deeper.now.tokens.now }
-    ensures { Gives (seen deeper.now.tokens.now) result (primary (below deeper.now.depth) left (drop at deeper.now.tokens.now)) }
+    ensures { Gives (seen deeper.now.tokens.now) result
+        (primary (below deeper.now.depth) left (drop at deeper.now.tokens.now)) }
 {
     let _count = deeper.tokens.len();
     let first = deeper.tokens.get(at).ok_or(Stop::Unread)?;

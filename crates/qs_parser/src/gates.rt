@@ -91,14 +91,16 @@ fn call_below(
     left: usize,
     at: usize,
 ) -> Result<Read<Call>, Stop>
-    ensures { Gives (seen tokens.now) result (call_at (below depth) renew left (drop at tokens.now)) }
+    ensures { Gives (seen tokens.now) result
+        (call_at (below depth) renew left (drop at tokens.now)) }
 {
     let deeper = Below {
         alloc,
         tokens,
         depth,
         read: |ask: Ask| -> Result<Read<Tree>, Stop>
-            ensures { Gives (seen tokens.entry.now) result (answered (below depth) ask tokens.entry.now) }
+            ensures { Gives (seen tokens.entry.now) result
+                (answered (below depth) ask tokens.entry.now) }
         { answer_at(alloc, tokens, depth, ask) },
     };
     call_at(&deeper, renew, left, at)

@@ -25,14 +25,16 @@ fn stmt_below(
     left: usize,
     at: usize,
 ) -> Result<Read<Stmt>, Stop>
-    ensures { Gives (seen tokens.now) result (stmt_at (below depth) renew left (drop at tokens.now)) }
+    ensures { Gives (seen tokens.now) result
+        (stmt_at (below depth) renew left (drop at tokens.now)) }
 {
     let deeper = Below {
         alloc,
         tokens,
         depth,
         read: |ask: Ask| -> Result<Read<Tree>, Stop>
-            ensures { Gives (seen tokens.entry.now) result (answered (below depth) ask tokens.entry.now) }
+            ensures { Gives (seen tokens.entry.now) result
+                (answered (below depth) ask tokens.entry.now) }
         { answer_at(alloc, tokens, depth, ask) },
     };
     stmt_at(&deeper, renew, left, at)
@@ -49,14 +51,16 @@ fn top_of(
     text: &str,
     at: usize,
 ) -> Option<Result<Read<StmtKind>, Stop>>
-    ensures { GivesIf (seen tokens.now) result (top_of depth renew left text.now (drop at tokens.now)) }
+    ensures { GivesIf (seen tokens.now) result
+        (top_of depth renew left text.now (drop at tokens.now)) }
 {
     let deeper = Below {
         alloc,
         tokens,
         depth,
         read: |ask: Ask| -> Result<Read<Tree>, Stop>
-            ensures { Gives (seen tokens.entry.now) result (answered (below depth) ask tokens.entry.now) }
+            ensures { Gives (seen tokens.entry.now) result
+                (answered (below depth) ask tokens.entry.now) }
         { answer_at(alloc, tokens, depth, ask) },
     };
     match text {

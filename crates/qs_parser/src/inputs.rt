@@ -76,7 +76,8 @@ pub fn qubit_at<F: Fn(Ask) -> Result<Read<Tree>, Stop>>(
 ) -> Result<Read<StmtKind>, Stop>
     requires callable { F.IsAlwaysCallable deeper.now.read }
     requires exact { IsExact (F.post deeper.now.read) deeper.now.depth deeper.now.tokens.now }
-    ensures { Gives (seen deeper.now.tokens.now) result (qubit_at (below deeper.now.depth) renew left (drop at deeper.now.tokens.now)) }
+    ensures { Gives (seen deeper.now.tokens.now) result
+        (qubit_at (below deeper.now.depth) renew left (drop at deeper.now.tokens.now)) }
 {
     let size = bracket_at(deeper, renew, left, at)?;
     let (name, at) = name_at(deeper.alloc, deeper.tokens, size.at)?;
@@ -98,7 +99,8 @@ pub fn input_at<F: Fn(Ask) -> Result<Read<Tree>, Stop>>(
 ) -> Result<Read<StmtKind>, Stop>
     requires callable { F.IsAlwaysCallable deeper.now.read }
     requires exact { IsExact (F.post deeper.now.read) deeper.now.depth deeper.now.tokens.now }
-    ensures { Gives (seen deeper.now.tokens.now) result (input_at (below deeper.now.depth) renew left (drop at deeper.now.tokens.now)) }
+    ensures { Gives (seen deeper.now.tokens.now) result
+        (input_at (below deeper.now.depth) renew left (drop at deeper.now.tokens.now)) }
 {
     let type_expr = type_at(deeper, renew, left, at)?;
     let (name, at) = name_at(deeper.alloc, deeper.tokens, type_expr.at)?;
@@ -120,7 +122,8 @@ pub fn output_at<F: Fn(Ask) -> Result<Read<Tree>, Stop>>(
 ) -> Result<Read<StmtKind>, Stop>
     requires callable { F.IsAlwaysCallable deeper.now.read }
     requires exact { IsExact (F.post deeper.now.read) deeper.now.depth deeper.now.tokens.now }
-    ensures { Gives (seen deeper.now.tokens.now) result (output_at (below deeper.now.depth) renew left (drop at deeper.now.tokens.now)) }
+    ensures { Gives (seen deeper.now.tokens.now) result
+        (output_at (below deeper.now.depth) renew left (drop at deeper.now.tokens.now)) }
 {
     let type_expr = type_at(deeper, renew, left, at)?;
     let (name, at) = name_at(deeper.alloc, deeper.tokens, type_expr.at)?;

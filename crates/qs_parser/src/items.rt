@@ -110,7 +110,8 @@ fn frame_at<F: Fn(Ask) -> Result<Read<Tree>, Stop>>(
 ) -> Result<Read<Item>, Stop>
     requires callable { F.IsAlwaysCallable deeper.now.read }
     requires exact { IsExact (F.post deeper.now.read) deeper.now.depth deeper.now.tokens.now }
-    ensures { Gives (seen deeper.now.tokens.now) result (frame_at span (below deeper.now.depth) renew left (drop at deeper.now.tokens.now)) }
+    ensures { Gives (seen deeper.now.tokens.now) result
+        (frame_at span (below deeper.now.depth) renew left (drop at deeper.now.tokens.now)) }
 {
     let (name, at) = name_at(deeper.alloc, deeper.tokens, at)?;
     let at = after_sign(deeper.tokens, at, "=")?;
@@ -134,7 +135,8 @@ fn return_at<F: Fn(Ask) -> Result<Read<Tree>, Stop>>(
 ) -> Result<Read<Item>, Stop>
     requires callable { F.IsAlwaysCallable deeper.now.read }
     requires exact { IsExact (F.post deeper.now.read) deeper.now.depth deeper.now.tokens.now }
-    ensures { Gives (seen deeper.now.tokens.now) result (return_at span (below deeper.now.depth) renew left (drop at deeper.now.tokens.now)) }
+    ensures { Gives (seen deeper.now.tokens.now) result
+        (return_at span (below deeper.now.depth) renew left (drop at deeper.now.tokens.now)) }
 {
     let Read { item, left, at } = whole_at(deeper, renew, left, at)?;
     let at = stopped(deeper.tokens, at)?;
@@ -155,7 +157,8 @@ fn statement_item<F: Fn(Ask) -> Result<Read<Tree>, Stop>>(
 ) -> Result<Read<Item>, Stop>
     requires callable { F.IsAlwaysCallable deeper.now.read }
     requires exact { IsExact (F.post deeper.now.read) deeper.now.depth deeper.now.tokens.now }
-    ensures { Gives (seen deeper.now.tokens.now) result (statement_item (below deeper.now.depth) renew left (drop at deeper.now.tokens.now)) }
+    ensures { Gives (seen deeper.now.tokens.now) result
+        (statement_item (below deeper.now.depth) renew left (drop at deeper.now.tokens.now)) }
 {
     let Read { item, left, at } = stmt_at(deeper, renew, left, at)?;
     Ok(Read {
@@ -178,7 +181,9 @@ fn item_of<F: Fn(Ask) -> Result<Read<Tree>, Stop>>(
 ) -> Result<Read<Item>, Stop>
     requires callable { F.IsAlwaysCallable deeper.now.read }
     requires exact { IsExact (F.post deeper.now.read) deeper.now.depth deeper.now.tokens.now }
-    ensures { Gives (seen deeper.now.tokens.now) result (item_of (below deeper.now.depth) renew left span text.now (drop rest deeper.now.tokens.now) (drop all deeper.now.tokens.now)) }
+    ensures { Gives (seen deeper.now.tokens.now) result
+        (item_of (below deeper.now.depth) renew left span text.now (drop rest deeper.now.tokens.now)
+        (drop all deeper.now.tokens.now)) }
 {
     match text {
         "extern" => extern_at(deeper.alloc, deeper.tokens, span, left, rest),
@@ -200,7 +205,9 @@ fn item_below(
     at: usize,
 ) -> Result<Read<Item>, Stop>
     requires room { at < length tokens.now }
-    ensures { Gives (seen tokens.now) result (item_of (below depth) renew left token.now.span token.now.text (drop (at + 1) tokens.now) (drop at tokens.now)) }
+    ensures { Gives (seen tokens.now) result
+        (item_of (below depth) renew left token.now.span token.now.text (drop (at + 1) tokens.now)
+        (drop at tokens.now)) }
 {
     let _count = tokens.len();
     let deeper = Below {
@@ -208,7 +215,8 @@ fn item_below(
         tokens,
         depth,
         read: |ask: Ask| -> Result<Read<Tree>, Stop>
-            ensures { Gives (seen tokens.entry.now) result (answered (below depth) ask tokens.entry.now) }
+            ensures { Gives (seen tokens.entry.now) result
+                (answered (below depth) ask tokens.entry.now) }
         { answer_at(alloc, tokens, depth, ask) },
     };
     item_of(

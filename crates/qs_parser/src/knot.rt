@@ -26,7 +26,8 @@ pub fn read(alloc: Global, tokens: &[Token], depth: usize, ask: Ask) -> Result<R
         tokens,
         depth,
         read: |ask: Ask| -> Result<Read<Tree>, Stop>
-            ensures { Gives (seen tokens.entry.now) result (answered (below depth) ask tokens.entry.now) }
+            ensures { Gives (seen tokens.entry.now) result
+                (answered (below depth) ask tokens.entry.now) }
         {
             if depth == 0 {
                 return Err(Stop::Unread);
@@ -60,7 +61,8 @@ pub fn answer_at(
 
 /// An expression's tree in its box.
 fn expr_tree(alloc: Global, read: Result<Read<Expr>, Stop>) -> Result<Read<Tree>, Stop>
-    ensures { (tokens : PureList TokenValue) (account : Reads ExprValue) → Gives (seen tokens) read account → Gives (seen tokens) result (as_tree ExprTree account) }
+    ensures { (tokens : PureList TokenValue) (account : Reads ExprValue)
+        → Gives (seen tokens) read account → Gives (seen tokens) result (as_tree ExprTree account) }
 {
     let Read { item, left, at } = read?;
     let item = Tree::Expr(Boxed::new(alloc, item)?);
@@ -69,7 +71,8 @@ fn expr_tree(alloc: Global, read: Result<Read<Expr>, Stop>) -> Result<Read<Tree>
 
 /// A statement's tree in its box.
 fn stmt_tree(alloc: Global, read: Result<Read<Stmt>, Stop>) -> Result<Read<Tree>, Stop>
-    ensures { (tokens : PureList TokenValue) (account : Reads StmtValue) → Gives (seen tokens) read account → Gives (seen tokens) result (as_tree StmtTree account) }
+    ensures { (tokens : PureList TokenValue) (account : Reads StmtValue)
+        → Gives (seen tokens) read account → Gives (seen tokens) result (as_tree StmtTree account) }
 {
     let Read { item, left, at } = read?;
     let item = Tree::Stmt(Boxed::new(alloc, item)?);
@@ -78,7 +81,9 @@ fn stmt_tree(alloc: Global, read: Result<Read<Stmt>, Stop>) -> Result<Read<Tree>
 
 /// The statements of a block in their box.
 fn stmts_tree(alloc: Global, read: Result<Read<List<Stmt>>, Stop>) -> Result<Read<Tree>, Stop>
-    ensures { (tokens : PureList TokenValue) (account : Reads (PureList StmtValue)) → Gives (seen tokens) read account → Gives (seen tokens) result (as_tree StmtsTree account) }
+    ensures { (tokens : PureList TokenValue) (account : Reads (PureList StmtValue))
+        → Gives (seen tokens) read account
+        → Gives (seen tokens) result (as_tree StmtsTree account) }
 {
     let Read { item, left, at } = read?;
     let item = Tree::Stmts(Boxed::new(alloc, item)?);

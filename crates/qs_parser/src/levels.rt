@@ -51,7 +51,8 @@ fn signed<F: Fn(Ask) -> Result<Read<Tree>, Stop>>(
 ) -> Result<Read<Expr>, Stop>
     requires callable { F.IsAlwaysCallable deeper.now.read }
     requires exact { IsExact (F.post deeper.now.read) deeper.now.depth deeper.now.tokens.now }
-    ensures { Gives (seen deeper.now.tokens.now) result (signed op (below deeper.now.depth) left (drop at deeper.now.tokens.now)) }
+    ensures { Gives (seen deeper.now.tokens.now) result
+        (signed op (below deeper.now.depth) left (drop at deeper.now.tokens.now)) }
 {
     let _count = deeper.tokens.len();
     let span = deeper.tokens.get(at).ok_or(Stop::Unread)?.span;
@@ -76,7 +77,8 @@ fn power<F: Fn(Ask) -> Result<Read<Tree>, Stop>>(
     requires callable { F.IsAlwaysCallable deeper.now.read }
     requires exact { IsExact (F.post deeper.now.read) deeper.now.depth deeper.now.tokens.now }
     ensures { Gives (seen deeper.now.tokens.now) result
-        (power (right_of powers (below deeper.now.depth)) (below deeper.now.depth) left (drop at deeper.now.tokens.now)) }
+        (power (right_of powers (below deeper.now.depth)) (below deeper.now.depth) left
+        (drop at deeper.now.tokens.now)) }
 {
     let Read {
         item: base,
@@ -110,7 +112,8 @@ fn tight<F: Fn(Ask) -> Result<Read<Tree>, Stop>>(
 ) -> Result<Read<Expr>, Stop>
     requires callable { F.IsAlwaysCallable deeper.now.read }
     requires exact { IsExact (F.post deeper.now.read) deeper.now.depth deeper.now.tokens.now }
-    ensures { Gives (seen deeper.now.tokens.now) result (unary powers (below deeper.now.depth) left (drop at deeper.now.tokens.now)) }
+    ensures { Gives (seen deeper.now.tokens.now) result
+        (unary powers (below deeper.now.depth) left (drop at deeper.now.tokens.now)) }
 {
     match un_op_at(deeper.tokens, at) {
         Some(op) => signed(deeper, op, left, at),
@@ -126,7 +129,8 @@ pub fn unary<F: Fn(Ask) -> Result<Read<Tree>, Stop>>(
 ) -> Result<Read<Expr>, Stop>
     requires callable { F.IsAlwaysCallable deeper.now.read }
     requires exact { IsExact (F.post deeper.now.read) deeper.now.depth deeper.now.tokens.now }
-    ensures { Gives (seen deeper.now.tokens.now) result (unary left (below deeper.now.depth) left (drop at deeper.now.tokens.now)) }
+    ensures { Gives (seen deeper.now.tokens.now) result
+        (unary left (below deeper.now.depth) left (drop at deeper.now.tokens.now)) }
 {
     tight(deeper, left, left, at)
 }
@@ -143,7 +147,8 @@ fn chained<F: Fn(Ask) -> Result<Read<Tree>, Stop>>(
     requires callable { F.IsAlwaysCallable deeper.now.read }
     requires exact { IsExact (F.post deeper.now.read) deeper.now.depth deeper.now.tokens.now }
     ensures { Gives (seen deeper.now.tokens.now) result
-        (chained (length (drop at deeper.now.tokens.now)) level (binary level (below deeper.now.depth)) first left (drop at deeper.now.tokens.now)) }
+        (chained (length (drop at deeper.now.tokens.now)) level
+        (binary level (below deeper.now.depth)) first left (drop at deeper.now.tokens.now)) }
 {
     let mut item = first;
     for _turn in at..deeper.tokens.len() {
@@ -170,7 +175,8 @@ fn binary<F: Fn(Ask) -> Result<Read<Tree>, Stop>>(
 ) -> Result<Read<Expr>, Stop>
     requires callable { F.IsAlwaysCallable deeper.now.read }
     requires exact { IsExact (F.post deeper.now.read) deeper.now.depth deeper.now.tokens.now }
-    ensures { Gives (seen deeper.now.tokens.now) result (binary levels (below deeper.now.depth) left (drop at deeper.now.tokens.now)) }
+    ensures { Gives (seen deeper.now.tokens.now) result
+        (binary levels (below deeper.now.depth) left (drop at deeper.now.tokens.now)) }
 {
     if levels == 0 {
         return unary(deeper, left, at);
@@ -188,7 +194,8 @@ pub fn expr_at<F: Fn(Ask) -> Result<Read<Tree>, Stop>>(
 ) -> Result<Read<Expr>, Stop>
     requires callable { F.IsAlwaysCallable deeper.now.read }
     requires exact { IsExact (F.post deeper.now.read) deeper.now.depth deeper.now.tokens.now }
-    ensures { Gives (seen deeper.now.tokens.now) result (expr_at (below deeper.now.depth) left (drop at deeper.now.tokens.now)) }
+    ensures { Gives (seen deeper.now.tokens.now) result
+        (expr_at (below deeper.now.depth) left (drop at deeper.now.tokens.now)) }
 {
     binary(deeper, LEVELS, left, at)
 }
@@ -203,7 +210,8 @@ pub fn whole_at<F: Fn(Ask) -> Result<Read<Tree>, Stop>>(
 ) -> Result<Read<Expr>, Stop>
     requires callable { F.IsAlwaysCallable deeper.now.read }
     requires exact { IsExact (F.post deeper.now.read) deeper.now.depth deeper.now.tokens.now }
-    ensures { Gives (seen deeper.now.tokens.now) result (whole_at (below deeper.now.depth) renew left (drop at deeper.now.tokens.now)) }
+    ensures { Gives (seen deeper.now.tokens.now) result
+        (whole_at (below deeper.now.depth) renew left (drop at deeper.now.tokens.now)) }
 {
     let Read { item, left, at } = expr_at(deeper, left, at)?;
     let left = left.max(renew);

@@ -20,7 +20,8 @@ pub fn up_to_brace<T: Drop, F: Fn(usize, usize) -> Result<Read<T>, Stop>>(
 ) -> Result<Read<List<T>>, Stop>
     requires callable { F.IsAlwaysCallable item }
     ensures { (reader : ℕ → PureList TokenValue → Reads T) → ReadsAs (F.post item) tokens.now reader
-        → Gives (seen tokens.now) result (up_to_brace (length (drop at tokens.now)) reader left (drop at tokens.now)) }
+        → Gives (seen tokens.now) result
+        (up_to_brace (length (drop at tokens.now)) reader left (drop at tokens.now)) }
 {
     let mut items = List::new(alloc);
     for _turn in at..tokens.len() {

@@ -72,7 +72,8 @@ pub fn bin_op(level: usize, text: &str) -> Option<BinOp>
 
 /// Such an operator at a place, and the place after it.
 pub fn bin_op_at(level: usize, tokens: &[Token], at: usize) -> Option<(BinOp, usize)>
-    ensures { option_map (λ r. (r.0, drop r.1 tokens.now)) result ≡ bin_op_at level (drop at tokens.now) }
+    ensures { option_map (λ r. (r.0, drop r.1 tokens.now)) result
+        ≡ bin_op_at level (drop at tokens.now) }
 {
     let token = tokens.get(at)?;
     let _count = tokens.len();

@@ -60,7 +60,8 @@ pub fn type_at<F: Fn(Ask) -> Result<Read<Tree>, Stop>>(
 ) -> Result<Read<TypeExpr>, Stop>
     requires callable { F.IsAlwaysCallable deeper.now.read }
     requires exact { IsExact (F.post deeper.now.read) deeper.now.depth deeper.now.tokens.now }
-    ensures { Gives (seen deeper.now.tokens.now) result (type_at (below deeper.now.depth) renew left (drop at deeper.now.tokens.now)) }
+    ensures { Gives (seen deeper.now.tokens.now) result
+        (type_at (below deeper.now.depth) renew left (drop at deeper.now.tokens.now)) }
 {
     match deeper.tokens.get(at) {
         Some(token) => {
@@ -87,7 +88,8 @@ pub fn bracket_at<F: Fn(Ask) -> Result<Read<Tree>, Stop>>(
 ) -> Result<Read<Option<Expr>>, Stop>
     requires callable { F.IsAlwaysCallable deeper.now.read }
     requires exact { IsExact (F.post deeper.now.read) deeper.now.depth deeper.now.tokens.now }
-    ensures { Gives (seen deeper.now.tokens.now) result (bracket_at (below deeper.now.depth) renew left (drop at deeper.now.tokens.now)) }
+    ensures { Gives (seen deeper.now.tokens.now) result
+        (bracket_at (below deeper.now.depth) renew left (drop at deeper.now.tokens.now)) }
 {
     if !begins_sign(deeper.tokens, at, "[") {
         return Ok(Read {
@@ -114,7 +116,8 @@ pub fn count_at<F: Fn(Ask) -> Result<Read<Tree>, Stop>>(
 ) -> Result<Read<Option<Expr>>, Stop>
     requires callable { F.IsAlwaysCallable deeper.now.read }
     requires exact { IsExact (F.post deeper.now.read) deeper.now.depth deeper.now.tokens.now }
-    ensures { Gives (seen deeper.now.tokens.now) result (count_at (below deeper.now.depth) renew left (drop at deeper.now.tokens.now)) }
+    ensures { Gives (seen deeper.now.tokens.now) result
+        (count_at (below deeper.now.depth) renew left (drop at deeper.now.tokens.now)) }
 {
     if !begins_sign(deeper.tokens, at, "(") {
         return Ok(Read {
@@ -141,7 +144,8 @@ pub fn place_at<F: Fn(Ask) -> Result<Read<Tree>, Stop>>(
 ) -> Result<Read<Place>, Stop>
     requires callable { F.IsAlwaysCallable deeper.now.read }
     requires exact { IsExact (F.post deeper.now.read) deeper.now.depth deeper.now.tokens.now }
-    ensures { Gives (seen deeper.now.tokens.now) result (place_at (below deeper.now.depth) renew left (drop at deeper.now.tokens.now)) }
+    ensures { Gives (seen deeper.now.tokens.now) result
+        (place_at (below deeper.now.depth) renew left (drop at deeper.now.tokens.now)) }
 {
     let (name, at) = name_at(deeper.alloc, deeper.tokens, at)?;
     let Read { item, left, at } = bracket_at(deeper, renew, left, at)?;
@@ -166,7 +170,8 @@ pub fn operand_at<F: Fn(Ask) -> Result<Read<Tree>, Stop>>(
 ) -> Result<Read<Operand>, Stop>
     requires callable { F.IsAlwaysCallable deeper.now.read }
     requires exact { IsExact (F.post deeper.now.read) deeper.now.depth deeper.now.tokens.now }
-    ensures { Gives (seen deeper.now.tokens.now) result (operand_at (below deeper.now.depth) renew left (drop at deeper.now.tokens.now)) }
+    ensures { Gives (seen deeper.now.tokens.now) result
+        (operand_at (below deeper.now.depth) renew left (drop at deeper.now.tokens.now)) }
 {
     match deeper.tokens.get(at) {
         Some(token) => {
@@ -201,7 +206,8 @@ pub fn operands_at<F: Fn(Ask) -> Result<Read<Tree>, Stop>>(
 ) -> Result<Read<List<Operand>>, Stop>
     requires callable { F.IsAlwaysCallable deeper.now.read }
     requires exact { IsExact (F.post deeper.now.read) deeper.now.depth deeper.now.tokens.now }
-    ensures { Gives (seen deeper.now.tokens.now) result (operands_at (below deeper.now.depth) renew left (drop at deeper.now.tokens.now)) }
+    ensures { Gives (seen deeper.now.tokens.now) result
+        (operands_at (below deeper.now.depth) renew left (drop at deeper.now.tokens.now)) }
 {
     commas(
         deeper.alloc,
@@ -222,7 +228,8 @@ pub fn acted_at<F: Fn(Ask) -> Result<Read<Tree>, Stop>>(
 ) -> Result<Read<List<Operand>>, Stop>
     requires callable { F.IsAlwaysCallable deeper.now.read }
     requires exact { IsExact (F.post deeper.now.read) deeper.now.depth deeper.now.tokens.now }
-    ensures { Gives (seen deeper.now.tokens.now) result (acted_at (below deeper.now.depth) renew left (drop at deeper.now.tokens.now)) }
+    ensures { Gives (seen deeper.now.tokens.now) result
+        (acted_at (below deeper.now.depth) renew left (drop at deeper.now.tokens.now)) }
 {
     if begins_sign(deeper.tokens, at, ";") {
         return Ok(Read {
@@ -244,7 +251,8 @@ pub fn value_at<F: Fn(Ask) -> Result<Read<Tree>, Stop>>(
 ) -> Result<Read<Value>, Stop>
     requires callable { F.IsAlwaysCallable deeper.now.read }
     requires exact { IsExact (F.post deeper.now.read) deeper.now.depth deeper.now.tokens.now }
-    ensures { Gives (seen deeper.now.tokens.now) result (value_at (below deeper.now.depth) renew left (drop at deeper.now.tokens.now)) }
+    ensures { Gives (seen deeper.now.tokens.now) result
+        (value_at (below deeper.now.depth) renew left (drop at deeper.now.tokens.now)) }
 {
     match past_word(deeper.tokens, at, "measure") {
         Some(rest) => {

@@ -23,7 +23,8 @@ fn interval_at<F: Fn(Ask) -> Result<Read<Tree>, Stop>>(
 ) -> Result<Read<Range>, Stop>
     requires callable { F.IsAlwaysCallable deeper.now.read }
     requires exact { IsExact (F.post deeper.now.read) deeper.now.depth deeper.now.tokens.now }
-    ensures { Gives (seen deeper.now.tokens.now) result (interval_at (below deeper.now.depth) span renew left (drop at deeper.now.tokens.now)) }
+    ensures { Gives (seen deeper.now.tokens.now) result
+        (interval_at (below deeper.now.depth) span renew left (drop at deeper.now.tokens.now)) }
 {
     let first = deeper.whole(renew, left, at)?;
     let at = after_sign(deeper.tokens, first.at, ":")?;
@@ -62,7 +63,8 @@ fn set_at<F: Fn(Ask) -> Result<Read<Tree>, Stop>>(
 ) -> Result<Read<Range>, Stop>
     requires callable { F.IsAlwaysCallable deeper.now.read }
     requires exact { IsExact (F.post deeper.now.read) deeper.now.depth deeper.now.tokens.now }
-    ensures { Gives (seen deeper.now.tokens.now) result (set_at (below deeper.now.depth) span renew left (drop at deeper.now.tokens.now)) }
+    ensures { Gives (seen deeper.now.tokens.now) result
+        (set_at (below deeper.now.depth) span renew left (drop at deeper.now.tokens.now)) }
 {
     let Read { item, left, at } = commas(
         deeper.alloc,
@@ -89,7 +91,8 @@ pub fn range_at<F: Fn(Ask) -> Result<Read<Tree>, Stop>>(
 ) -> Result<Read<Range>, Stop>
     requires callable { F.IsAlwaysCallable deeper.now.read }
     requires exact { IsExact (F.post deeper.now.read) deeper.now.depth deeper.now.tokens.now }
-    ensures { Gives (seen deeper.now.tokens.now) result (range_at (below deeper.now.depth) renew left (drop at deeper.now.tokens.now)) }
+    ensures { Gives (seen deeper.now.tokens.now) result
+        (range_at (below deeper.now.depth) renew left (drop at deeper.now.tokens.now)) }
 {
     match deeper.tokens.get(at) {
         Some(token) => {

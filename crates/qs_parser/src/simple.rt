@@ -28,7 +28,9 @@ fn init_at<F: Fn(Ask) -> Result<Read<Tree>, Stop>>(
 ) -> Result<Read<StmtKind>, Stop>
     requires callable { F.IsAlwaysCallable deeper.now.read }
     requires exact { IsExact (F.post deeper.now.read) deeper.now.depth deeper.now.tokens.now }
-    ensures { Gives (seen deeper.now.tokens.now) result (init_at (below deeper.now.depth) is_const type_expr name renew left (drop at deeper.now.tokens.now)) }
+    ensures { Gives (seen deeper.now.tokens.now) result
+        (init_at (below deeper.now.depth) is_const type_expr name renew left
+        (drop at deeper.now.tokens.now)) }
 {
     let at = after_sign(deeper.tokens, at, "=")?;
     let Read { item, left, at } = value_at(deeper, renew, left, at)?;
@@ -51,7 +53,9 @@ pub fn declaration_at<F: Fn(Ask) -> Result<Read<Tree>, Stop>>(
 ) -> Result<Read<StmtKind>, Stop>
     requires callable { F.IsAlwaysCallable deeper.now.read }
     requires exact { IsExact (F.post deeper.now.read) deeper.now.depth deeper.now.tokens.now }
-    ensures { Gives (seen deeper.now.tokens.now) result (declaration_at (below deeper.now.depth) is_const renew left (drop at deeper.now.tokens.now)) }
+    ensures { Gives (seen deeper.now.tokens.now) result
+        (declaration_at (below deeper.now.depth) is_const renew left
+        (drop at deeper.now.tokens.now)) }
 {
     let ty = type_at(deeper, renew, left, at)?;
     let (name, at) = name_at(deeper.alloc, deeper.tokens, ty.at)?;
@@ -95,7 +99,8 @@ fn to_at<F: Fn(Ask) -> Result<Read<Tree>, Stop>>(
 ) -> Result<Read<Option<Place>>, Stop>
     requires callable { F.IsAlwaysCallable deeper.now.read }
     requires exact { IsExact (F.post deeper.now.read) deeper.now.depth deeper.now.tokens.now }
-    ensures { Gives (seen deeper.now.tokens.now) result (to_at (below deeper.now.depth) renew left (drop at deeper.now.tokens.now)) }
+    ensures { Gives (seen deeper.now.tokens.now) result
+        (to_at (below deeper.now.depth) renew left (drop at deeper.now.tokens.now)) }
 {
     match past_sign(deeper.tokens, at, "->") {
         None => Ok(Read {
@@ -124,7 +129,8 @@ pub fn measure_at<F: Fn(Ask) -> Result<Read<Tree>, Stop>>(
 ) -> Result<Read<StmtKind>, Stop>
     requires callable { F.IsAlwaysCallable deeper.now.read }
     requires exact { IsExact (F.post deeper.now.read) deeper.now.depth deeper.now.tokens.now }
-    ensures { Gives (seen deeper.now.tokens.now) result (measure_at (below deeper.now.depth) renew left (drop at deeper.now.tokens.now)) }
+    ensures { Gives (seen deeper.now.tokens.now) result
+        (measure_at (below deeper.now.depth) renew left (drop at deeper.now.tokens.now)) }
 {
     let operand = operand_at(deeper, renew, left, at)?;
     let Read { item, left, at } = to_at(deeper, renew, operand.left, operand.at)?;
@@ -146,7 +152,8 @@ pub fn reset_at<F: Fn(Ask) -> Result<Read<Tree>, Stop>>(
 ) -> Result<Read<StmtKind>, Stop>
     requires callable { F.IsAlwaysCallable deeper.now.read }
     requires exact { IsExact (F.post deeper.now.read) deeper.now.depth deeper.now.tokens.now }
-    ensures { Gives (seen deeper.now.tokens.now) result (reset_at (below deeper.now.depth) renew left (drop at deeper.now.tokens.now)) }
+    ensures { Gives (seen deeper.now.tokens.now) result
+        (reset_at (below deeper.now.depth) renew left (drop at deeper.now.tokens.now)) }
 {
     let Read { item, left, at } = operand_at(deeper, renew, left, at)?;
     let at = stopped(deeper.tokens, at)?;
@@ -167,7 +174,8 @@ pub fn barrier_at<F: Fn(Ask) -> Result<Read<Tree>, Stop>>(
 ) -> Result<Read<StmtKind>, Stop>
     requires callable { F.IsAlwaysCallable deeper.now.read }
     requires exact { IsExact (F.post deeper.now.read) deeper.now.depth deeper.now.tokens.now }
-    ensures { Gives (seen deeper.now.tokens.now) result (barrier_at (below deeper.now.depth) renew left (drop at deeper.now.tokens.now)) }
+    ensures { Gives (seen deeper.now.tokens.now) result
+        (barrier_at (below deeper.now.depth) renew left (drop at deeper.now.tokens.now)) }
 {
     let Read { item, left, at } = acted_at(deeper, renew, left, at)?;
     let at = stopped(deeper.tokens, at)?;
@@ -188,7 +196,8 @@ pub fn delay_at<F: Fn(Ask) -> Result<Read<Tree>, Stop>>(
 ) -> Result<Read<StmtKind>, Stop>
     requires callable { F.IsAlwaysCallable deeper.now.read }
     requires exact { IsExact (F.post deeper.now.read) deeper.now.depth deeper.now.tokens.now }
-    ensures { Gives (seen deeper.now.tokens.now) result (delay_at (below deeper.now.depth) renew left (drop at deeper.now.tokens.now)) }
+    ensures { Gives (seen deeper.now.tokens.now) result
+        (delay_at (below deeper.now.depth) renew left (drop at deeper.now.tokens.now)) }
 {
     let time = enclosed(deeper, "[", "]", renew, left, at)?;
     let Read { item, left, at } = operands_at(deeper, renew, time.left, time.at)?;

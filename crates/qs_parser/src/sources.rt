@@ -186,7 +186,8 @@ pub fn refusal_of(
     token: &Token,
     at: usize,
 ) -> Result<ParseRefusal, AllocError>
-    ensures { IfOk result (λ refusal. refusal ≡ refusal_of tokens.now token.now (drop at tokens.now)) }
+    ensures { IfOk result
+        (λ refusal. refusal ≡ refusal_of tokens.now token.now (drop at tokens.now)) }
 {
     let span = token.span;
     if unknown_version(tokens) {

@@ -30,7 +30,8 @@ pub fn block_at<F: Fn(Ask) -> Result<Read<Tree>, Stop>>(
 ) -> Result<Read<List<Stmt>>, Stop>
     requires callable { F.IsAlwaysCallable deeper.now.read }
     requires exact { IsExact (F.post deeper.now.read) deeper.now.depth deeper.now.tokens.now }
-    ensures { Gives (seen deeper.now.tokens.now) result (block_at (below deeper.now.depth) renew left (drop at deeper.now.tokens.now)) }
+    ensures { Gives (seen deeper.now.tokens.now) result
+        (block_at (below deeper.now.depth) renew left (drop at deeper.now.tokens.now)) }
 {
     let at = after_sign(deeper.tokens, at, "{")?;
     if deeper.depth == 0 {
@@ -55,7 +56,8 @@ pub fn nested_at<F: Fn(Ask) -> Result<Read<Tree>, Stop>>(
 ) -> Result<Read<Stmt>, Stop>
     requires callable { F.IsAlwaysCallable deeper.now.read }
     requires exact { IsExact (F.post deeper.now.read) deeper.now.depth deeper.now.tokens.now }
-    ensures { Gives (seen deeper.now.tokens.now) result (nested_at (below deeper.now.depth) renew left (drop at deeper.now.tokens.now)) }
+    ensures { Gives (seen deeper.now.tokens.now) result
+        (nested_at (below deeper.now.depth) renew left (drop at deeper.now.tokens.now)) }
 {
     deeper.stmt(renew, left, at)
 }
@@ -70,7 +72,8 @@ pub fn body_at<F: Fn(Ask) -> Result<Read<Tree>, Stop>>(
 ) -> Result<Read<Body>, Stop>
     requires callable { F.IsAlwaysCallable deeper.now.read }
     requires exact { IsExact (F.post deeper.now.read) deeper.now.depth deeper.now.tokens.now }
-    ensures { Gives (seen deeper.now.tokens.now) result (body_at (below deeper.now.depth) renew left (drop at deeper.now.tokens.now)) }
+    ensures { Gives (seen deeper.now.tokens.now) result
+        (body_at (below deeper.now.depth) renew left (drop at deeper.now.tokens.now)) }
 {
     if begins_sign(deeper.tokens, at, "{") {
         let Read { item, left, at } = block_at(deeper, renew, left, at)?;
@@ -95,7 +98,8 @@ pub fn while_at<F: Fn(Ask) -> Result<Read<Tree>, Stop>>(
 ) -> Result<Read<StmtKind>, Stop>
     requires callable { F.IsAlwaysCallable deeper.now.read }
     requires exact { IsExact (F.post deeper.now.read) deeper.now.depth deeper.now.tokens.now }
-    ensures { Gives (seen deeper.now.tokens.now) result (while_at (below deeper.now.depth) renew left (drop at deeper.now.tokens.now)) }
+    ensures { Gives (seen deeper.now.tokens.now) result
+        (while_at (below deeper.now.depth) renew left (drop at deeper.now.tokens.now)) }
 {
     let test = enclosed(deeper, "(", ")", renew, left, at)?;
     let body = body_at(deeper, renew, test.left, test.at)?;
@@ -116,7 +120,8 @@ fn box_at<F: Fn(Ask) -> Result<Read<Tree>, Stop>>(
 ) -> Result<Read<StmtKind>, Stop>
     requires callable { F.IsAlwaysCallable deeper.now.read }
     requires exact { IsExact (F.post deeper.now.read) deeper.now.depth deeper.now.tokens.now }
-    ensures { Gives (seen deeper.now.tokens.now) result (box_at (below deeper.now.depth) renew left (drop at deeper.now.tokens.now)) }
+    ensures { Gives (seen deeper.now.tokens.now) result
+        (box_at (below deeper.now.depth) renew left (drop at deeper.now.tokens.now)) }
 {
     let time = bracket_at(deeper, renew, left, at)?;
     let body = block_at(deeper, renew, time.left, time.at)?;
@@ -156,7 +161,8 @@ fn else_at<F: Fn(Ask) -> Result<Read<Tree>, Stop>>(
 ) -> Result<Read<StmtKind>, Stop>
     requires callable { F.IsAlwaysCallable deeper.now.read }
     requires exact { IsExact (F.post deeper.now.read) deeper.now.depth deeper.now.tokens.now }
-    ensures { Gives (seen deeper.now.tokens.now) result (else_at (below deeper.now.depth) test body renew left (drop at deeper.now.tokens.now)) }
+    ensures { Gives (seen deeper.now.tokens.now) result
+        (else_at (below deeper.now.depth) test body renew left (drop at deeper.now.tokens.now)) }
 {
     match past_word(deeper.tokens, at, "else") {
         Some(rest) if !lacks_else(&body) => match body_at(deeper, renew, left, rest) {
@@ -190,7 +196,8 @@ fn if_at<F: Fn(Ask) -> Result<Read<Tree>, Stop>>(
 ) -> Result<Read<StmtKind>, Stop>
     requires callable { F.IsAlwaysCallable deeper.now.read }
     requires exact { IsExact (F.post deeper.now.read) deeper.now.depth deeper.now.tokens.now }
-    ensures { Gives (seen deeper.now.tokens.now) result (if_at (below deeper.now.depth) renew left (drop at deeper.now.tokens.now)) }
+    ensures { Gives (seen deeper.now.tokens.now) result
+        (if_at (below deeper.now.depth) renew left (drop at deeper.now.tokens.now)) }
 {
     let test = enclosed(deeper, "(", ")", renew, left, at)?;
     let body = body_at(deeper, renew, test.left, test.at)?;
@@ -207,7 +214,8 @@ fn for_at<F: Fn(Ask) -> Result<Read<Tree>, Stop>>(
 ) -> Result<Read<StmtKind>, Stop>
     requires callable { F.IsAlwaysCallable deeper.now.read }
     requires exact { IsExact (F.post deeper.now.read) deeper.now.depth deeper.now.tokens.now }
-    ensures { Gives (seen deeper.now.tokens.now) result (for_at (below deeper.now.depth) renew left (drop at deeper.now.tokens.now)) }
+    ensures { Gives (seen deeper.now.tokens.now) result
+        (for_at (below deeper.now.depth) renew left (drop at deeper.now.tokens.now)) }
 {
     let ty = type_at(deeper, renew, left, at)?;
     let (name, at) = name_at(deeper.alloc, deeper.tokens, ty.at)?;
@@ -231,7 +239,8 @@ fn gate_call_at<F: Fn(Ask) -> Result<Read<Tree>, Stop>>(
 ) -> Result<Read<StmtKind>, Stop>
     requires callable { F.IsAlwaysCallable deeper.now.read }
     requires exact { IsExact (F.post deeper.now.read) deeper.now.depth deeper.now.tokens.now }
-    ensures { Gives (seen deeper.now.tokens.now) result (gate_call_at (below deeper.now.depth) renew left (drop at deeper.now.tokens.now)) }
+    ensures { Gives (seen deeper.now.tokens.now) result
+        (gate_call_at (below deeper.now.depth) renew left (drop at deeper.now.tokens.now)) }
 {
     let Read { item, left, at } = call_at(deeper, renew, left, at)?;
     Ok(Read {
@@ -253,7 +262,9 @@ fn named_stmt<F: Fn(Ask) -> Result<Read<Tree>, Stop>>(
 ) -> Result<Read<StmtKind>, Stop>
     requires callable { F.IsAlwaysCallable deeper.now.read }
     requires exact { IsExact (F.post deeper.now.read) deeper.now.depth deeper.now.tokens.now }
-    ensures { Gives (seen deeper.now.tokens.now) result (named_stmt (below deeper.now.depth) renew left text.now (drop rest deeper.now.tokens.now) (drop at deeper.now.tokens.now)) }
+    ensures { Gives (seen deeper.now.tokens.now) result
+        (named_stmt (below deeper.now.depth) renew left text.now (drop rest deeper.now.tokens.now)
+        (drop at deeper.now.tokens.now)) }
 {
     if is_modifier(text) {
         return gate_call_at(deeper, renew, left, at);
@@ -318,7 +329,9 @@ fn stmt_of<F: Fn(Ask) -> Result<Read<Tree>, Stop>>(
 ) -> Result<Read<StmtKind>, Stop>
     requires callable { F.IsAlwaysCallable deeper.now.read }
     requires exact { IsExact (F.post deeper.now.read) deeper.now.depth deeper.now.tokens.now }
-    ensures { Gives (seen deeper.now.tokens.now) result (stmt_of (below deeper.now.depth) renew left text.now (drop rest deeper.now.tokens.now) (drop at deeper.now.tokens.now)) }
+    ensures { Gives (seen deeper.now.tokens.now) result
+        (stmt_of (below deeper.now.depth) renew left text.now (drop rest deeper.now.tokens.now)
+        (drop at deeper.now.tokens.now)) }
 {
     match text {
         "const" => declaration_at(deeper, true, renew, left, rest),
@@ -351,7 +364,8 @@ pub fn stmt_at<F: Fn(Ask) -> Result<Read<Tree>, Stop>>(
 ) -> Result<Read<Stmt>, Stop>
     requires callable { F.IsAlwaysCallable deeper.now.read }
     requires exact { IsExact (F.post deeper.now.read) deeper.now.depth deeper.now.tokens.now }
-    ensures { Gives (seen deeper.now.tokens.now) result (stmt_at (below deeper.now.depth) renew left (drop at deeper.now.tokens.now)) }
+    ensures { Gives (seen deeper.now.tokens.now) result
+        (stmt_at (below deeper.now.depth) renew left (drop at deeper.now.tokens.now)) }
 {
     match deeper.tokens.get(at) {
         Some(token) => {

@@ -74,7 +74,8 @@ impl Consts {
 
     /// The constants by their names, for many look-ups; an error where memory runs out.
     pub fn table(&self, alloc: Global) -> Result<ConstTable<'_>, AllocError>
-        ensures { IfOk result (λ t. (name : PureList ℕ) → constant_at t name ≡ constant_in self.now.list name) }
+        ensures { IfOk result
+            (λ t. (name : PureList ℕ) → constant_at t name ≡ constant_in self.now.list name) }
     {
         let mut values = HashMap::new(alloc);
         for known in self.list.as_slice() {
@@ -90,7 +91,10 @@ fn put_first<'a>(
     name: &'a str,
     value: &'a ConstVal,
 ) -> Result<(), AllocError>
-    ensures { OnOk result ((key : PureList ℕ) → value_at values.new key ≡ option_or (value_at values.old key) (if bytes_eq key name.now then Some value.now else None)) }
+    ensures { OnOk result
+        ((key : PureList ℕ) → value_at values.new key
+        ≡ option_or (value_at values.old key)
+        (if bytes_eq key name.now then Some value.now else None)) }
 {
     if !values.contains_key(name) {
         values.insert(name, value)?;
