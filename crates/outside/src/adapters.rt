@@ -96,7 +96,10 @@ impl<R: Files + Drop> Model for FileShelf<R> {
     ghost Value = { ShelfState };
 
     ghost view = { λ s. record {
-        files = None; faults = s.faults; failed = name_or_empty s.failed } };
+      files = None;
+      faults = s.faults;
+      failed = name_or_empty s.failed;
+    } };
 }
 
 impl<R: Files + Drop> FileShelf<R> {

@@ -33,7 +33,12 @@ impl Model for MemoryShelf {
     ghost use Rattle.outside.specs.Kept.{files_of, name_or_empty};
 
     ghost view = { λ s. record {
-        files = files_of s.files; fails = s.fails; calls = s.calls; faults = s.faults; failed = name_or_empty s.failed } };
+      files = files_of s.files;
+      fails = s.fails;
+      calls = s.calls;
+      faults = s.faults;
+      failed = name_or_empty s.failed;
+    } };
 }
 
 impl MemoryShelf {
@@ -42,7 +47,12 @@ impl MemoryShelf {
     /// that finds no memory has no number.
     pub fn new(files: List<Kept>, fails: List<u32>) -> MemoryShelf
         ensures { result ≡ record {
-            files = files_of files; fails = fails; calls = 0; faults = 0; failed = [] } }
+          files = files_of files;
+          fails = fails;
+          calls = 0;
+          faults = 0;
+          failed = [];
+        } }
     {
         MemoryShelf {
             files,

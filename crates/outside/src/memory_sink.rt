@@ -24,7 +24,11 @@ impl Model for MemorySink {
     ghost Value = { SinkInMemory };
 
     ghost view = { λ s. record {
-        bytes = s.held.items; room = s.room; piece = s.piece; faults = s.faults } };
+      bytes = s.held.items;
+      room = s.room;
+      piece = s.piece;
+      faults = s.faults;
+    } };
 
     ghost invariant = { λ s. (vec_len s.held + s.room ≤ vec_capacity s.held) × (0 < s.piece) };
 }

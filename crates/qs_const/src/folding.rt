@@ -15,7 +15,9 @@ impl Names for ConstTable<'_> {
     ghost use Rattle.qs_const.specs.Folding.{constant_or};
 
     ghost scope = { λ table. record {
-        means = λ name. constant_or Variable (constant_at table name); in_duration = false } };
+      means = λ name. constant_or Variable (constant_at table name);
+      in_duration = false;
+    } };
 
     fn meaning(&self, alloc: Global, name: &str) -> Result<Meaning, AllocError> {
         match self.get(name) {

@@ -32,17 +32,19 @@ coded_is a h = to_z-of_z w128 a (fits_below a h)
 pub factor_is : (a : ℤ) → unsigned_abs a < 10 ^ 18 → coded a ≡ a
 factor_is a h = coded_is a (omega arith)
 
--- a product, a sum of two products and a difference of two, as the code computes them
+-- a product, a sum and a difference, as the code computes them
 pub product_is : (a b : ℤ) → unsigned_abs a < 10 ^ 18 → unsigned_abs b < 10 ^ 18 → coded (coded a *ℤ coded b) ≡ a *ℤ b
 product_is a b p q = let small = product_below a b p q in rw (factor_is a p, factor_is b q) (coded_is (a *ℤ b) (omega arith))
 
-pub sum_is : (a b c d : ℤ) → unsigned_abs a < 10 ^ 18 → unsigned_abs b < 10 ^ 18 → unsigned_abs c < 10 ^ 18 → unsigned_abs d < 10 ^ 18
-    → coded (coded (coded a *ℤ coded b) +ℤ coded (coded c *ℤ coded d)) ≡ (a *ℤ b) +ℤ (c *ℤ d)
-sum_is a b c d p q r s = rw (product_is a b p q, product_is c d r s) (coded_is ((a *ℤ b) +ℤ (c *ℤ d)) (sum_below (a *ℤ b) (c *ℤ d) (product_below a b p q) (product_below c d r s)))
+-- a number below 10^36 in size, as a sum and a difference have it
+pub term_is : (x : ℤ) → unsigned_abs x < 10 ^ 36 → coded x ≡ x
+term_is x p = coded_is x (omega arith)
 
-pub difference_is : (a b c d : ℤ) → unsigned_abs a < 10 ^ 18 → unsigned_abs b < 10 ^ 18 → unsigned_abs c < 10 ^ 18 → unsigned_abs d < 10 ^ 18
-    → coded (coded (coded a *ℤ coded b) -ℤ coded (coded c *ℤ coded d)) ≡ (a *ℤ b) -ℤ (c *ℤ d)
-difference_is a b c d p q r s = rw (product_is a b p q, product_is c d r s) (coded_is ((a *ℤ b) -ℤ (c *ℤ d)) (difference_below (a *ℤ b) (c *ℤ d) (product_below a b p q) (product_below c d r s)))
+pub sum_is : (x y : ℤ) → unsigned_abs x < 10 ^ 36 → unsigned_abs y < 10 ^ 36 → coded (coded x +ℤ coded y) ≡ x +ℤ y
+sum_is x y p q = rw (term_is x p, term_is y q) (coded_is (x +ℤ y) (sum_below x y p q))
+
+pub difference_is : (x y : ℤ) → unsigned_abs x < 10 ^ 36 → unsigned_abs y < 10 ^ 36 → coded (coded x -ℤ coded y) ≡ x -ℤ y
+difference_is x y p q = rw (term_is x p, term_is y q) (coded_is (x -ℤ y) (difference_below x y p q))
 
 -- a refused pi part refuses the number
 pub refused_pi : (an ad bn bd : ℤ) (e : NumRefusal) → bd ≢ pos 0 → QuotientIs bn bd (Err e) → NumberIs an ad bn bd (Err e)

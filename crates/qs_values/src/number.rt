@@ -83,24 +83,36 @@ impl Frac {
         self.den
     }
 
+    /// Both numerators over one denominator, the product of both denominators, which comes last.
+    fn over_one_denominator(self, other: Frac) -> (i128, i128, i128)
+        ensures first { result.0 ≡ self.num *ℤ other.den }
+        ensures second { result.1 ≡ other.num *ℤ self.den }
+        ensures denominator { result.2 ≡ self.den *ℤ other.den }
+        ensures first_below { unsigned_abs result.0 < 10 ^ 36 }
+        ensures second_below { unsigned_abs result.1 < 10 ^ 36 }
+        ensures denominator_below { unsigned_abs result.2 < 10 ^ 36 }
+    {
+        (
+            self.num * other.den,
+            other.num * self.den,
+            self.den * other.den,
+        )
+    }
+
     /// The sum.
     fn plus(self, other: Frac) -> Result<Frac, NumRefusal>
         ensures { FracSumIs self other result }
     {
-        Frac::of(
-            self.num * other.den + other.num * self.den,
-            self.den * other.den,
-        )
+        let (first, second, denominator) = self.over_one_denominator(other);
+        Frac::of(first + second, denominator)
     }
 
     /// The difference.
     fn minus(self, other: Frac) -> Result<Frac, NumRefusal>
         ensures { FracDifferenceIs self other result }
     {
-        Frac::of(
-            self.num * other.den - other.num * self.den,
-            self.den * other.den,
-        )
+        let (first, second, denominator) = self.over_one_denominator(other);
+        Frac::of(first - second, denominator)
     }
 
     /// The product.
