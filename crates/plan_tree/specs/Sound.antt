@@ -27,6 +27,10 @@ weight_in budget (Block b) = 1 + length b.events
 abbrev pub weight_of : Plan → ℕ
 weight_of plan = sum (map (weight_in plan.budget) plan.body)
 
+-- the greatest weight that is told: a greater one is told as this
+abbrev pub greatest_weight : ℕ
+greatest_weight = 18446744073709551615
+
 -- the order of an offset and a port
 abbrev pub start_cmp : ℕ × ℕ → ℕ × ℕ → Ordering
 start_cmp x y = ordering_then (nat_cmp x.0 y.0) (nat_cmp x.1 y.1)

@@ -6,8 +6,12 @@ mod frame;
 mod laws;
 mod part;
 mod plan;
+#[cfg(test)]
+mod tests;
+mod weighing;
 
 pub use frame::FrameState;
 pub use laws::{example_is_sound, plays_stay_apart, starts_are_ordered};
 pub use part::{Item, Part, PartStmt, Split};
 pub use plan::{Block, Deed, Event, Plan, PlanStmt};
+pub use weighing::weight;
