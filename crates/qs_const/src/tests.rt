@@ -358,7 +358,8 @@ z**(-true) => 125 1:1 constant | 131 1:1 number | 133 1:5 number
 z[1]/pi => 134 1:1 number | 131 1:1 number | 133 1:1 number; -!z/pi => 133 1:1 number
 pi/!z => 133 1:1 constant
 # counts that aren't whole
-1 << 100.5 => 133 1:1 constant; 1 << -0.5 => 133 1:1 constant; 1 >> 63.5 => 133 1:1 constant
+1 << 63.5 => 133 1:1 constant; 1 << 100.5 => 133 1:1 constant; 1 << -0.5 => 133 1:1 constant
+1 >> 63.5 => 133 1:1 constant
 1 >> -1/3 => 133 1:1 constant; z << 63.5 => 134 1:1 number | 131 1:1 constant | 133 1:1 constant
 true << 64.5 => 133 1:1 constant; pi >> 100.5 => 133 1:1 constant
 z << 62.5 => 134 1:1 number | 131 1:1 constant | 133 1:1 constant
