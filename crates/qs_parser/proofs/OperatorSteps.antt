@@ -141,25 +141,31 @@ chain_goes (suc m) k n operand x y z left fewer l ts rest us op whole w h e f r 
     let same : m ≡ k = omega (arith, h) in
     w ∙ chain_found m n operand x left ts (Some (op, rest)) e ∙ rw (f, r, p, same) refl
 
--- an expression of no level, and of more levels
-pub no_level : (n : ℕ) (b : Option Readers) (left : ℕ) (ts : List Token) → n ≡ 0 → binary n b left ts ≡ unary left b left ts
+-- an expression of no level
+pub no_level : (b : Option Readers) (left : ℕ) (ts : List Token) → binary 0 b left ts ≡ unary left b left ts
 unfolding binary
-no_level zero b left ts e = refl
-no_level (suc n) b left ts e = absurd (omega (arith, e))
+no_level b left ts = refl
 
-pub level_stops : (n : ℕ) (b : Option Readers) (left : ℕ) (ts : List Token) → ¬ (n ≡ 0) → binary (n - 1) b left ts ≡ None → binary n b left ts ≡ None
+-- where an expression of some levels isn't read, none of more levels is
+pub levels_stop : (n k m : ℕ) (b : Option Readers) (left : ℕ) (ts : List Token) → n + k ≡ m → binary n b left ts ≡ None → binary m b left ts ≡ None
 unfolding binary
-level_stops zero b left ts k e = absurd (k refl)
-level_stops (suc n) b left ts k e =
-    let same : suc n - 1 ≡ n = omega arith in
-    let here : binary n b left ts ≡ None = subst (λ m. binary m b left ts ≡ None) same e in
-    rw here refl
+levels_stop n zero m b left ts h e =
+    let same : n ≡ m = omega (arith, h) in
+    subst (λ i. binary i b left ts ≡ None) same e
+levels_stop n (suc k) m b left ts h e =
+    let same : suc (n + k) ≡ m = omega (arith, h) in
+    subst (λ i. binary i b left ts ≡ None) same (above_stops (n + k) (levels_stop n k (n + k) b left ts refl e))
+  where
+    above_stops : (i : ℕ) → binary i b left ts ≡ None → binary (suc i) b left ts ≡ None
+    above_stops i none = rw none refl
 
-pub one_level : (n : ℕ) (b : Option Readers) (left : ℕ) (ts : List Token) (x : Expr) (l : ℕ) (rest : List Token) → ¬ (n ≡ 0) → binary (n - 1) b left ts ≡ Some (x, l, rest)
-    → binary n b left ts ≡ chained (length rest) (n - 1) (binary (n - 1) b) x l rest
+-- one level more
+pub one_level : (n : ℕ) (b : Option Readers) (left : ℕ) (ts : List Token) (x : Expr) (l : ℕ) (rest : List Token) → binary n b left ts ≡ Some (x, l, rest)
+    → binary (suc n) b left ts ≡ chained (length rest) n (binary n b) x l rest
 unfolding binary
-one_level zero b left ts x l rest k e = absurd (k refl)
-one_level (suc n) b left ts x l rest k e =
-    let same : suc n - 1 ≡ n = omega arith in
-    let here : binary n b left ts ≡ Some (x, l, rest) = subst (λ m. binary m b left ts ≡ Some (x, l, rest)) same e in
-    rw (here, same) refl
+one_level n b left ts x l rest e = rw e refl
+
+-- one level more, of which no operator comes
+pub level_passes : (n : ℕ) (b : Option Readers) (left : ℕ) (ts : List Token) (x : Expr) (l : ℕ) (rest : List Token) → binary n b left ts ≡ Some (x, l, rest) → bin_op_at n rest ≡ None
+    → binary (suc n) b left ts ≡ Some (x, l, rest)
+level_passes n b left ts x l rest e none = chain_ends (length rest) n (binary n b) x l rest (binary (suc n) b left ts) (one_level n b left ts x l rest e) none

@@ -178,11 +178,23 @@ fn binary<F: Fn(Ask) -> Result<Read<Tree>, Stop>>(
     ensures { Gives (seen deeper.now.tokens.now) result
         (binary levels (below deeper.now.depth) left (drop at deeper.now.tokens.now)) }
 {
-    if levels == 0 {
-        return unary(deeper, left, at);
+    let Read {
+        mut item,
+        mut left,
+        mut at,
+    } = unary(deeper, left, at)?;
+    for level in 0..levels {
+        match bin_op_at(level, deeper.tokens, at) {
+            Some(_) => {
+                let read = chained(deeper, level, item, left, at)?;
+                item = read.item;
+                left = read.left;
+                at = read.at;
+            }
+            None => {}
+        }
     }
-    let Read { item, left, at } = binary(deeper, levels - 1, left, at)?;
-    chained(deeper, levels - 1, item, left, at)
+    Ok(Read { item, left, at })
 }
 
 /// An expression.

@@ -1,4 +1,4 @@
-use Rattle.std.proofs.Common.{◌≡◌, ◌+◌, ◌-◌, ◌*◌, drop, length}
+use Rattle.std.proofs.Common.{◌≡◌, ◌+◌, ◌-◌, ◌*◌, Some, drop, length}
 use Rattle.qs_parser.specs.steps.Knot.{below}
 use Rattle.qs_parser.specs.steps.Expressions.{binary, chained}
 use Rattle.qs_parser.proofs.levels.+levels.Given as goal
@@ -13,3 +13,7 @@ abbrev pub invariant-chained-loop-turn : goal.invariant-chained-loop-turn
 invariant-chained-loop-turn g l =
     chained (length (drop l.fn.at l.deeper.tokens.now)) l.level (binary l.level (below l.deeper.depth)) l.fn.first l.fn.left (drop l.fn.at l.deeper.tokens.now)
     ≡ chained (l._turn-end - l._turn) l.level (binary l.level (below l.deeper.depth)) l.item l.left (drop l.at l.deeper.tokens.now)
+
+abbrev pub invariant-binary-loop-level : goal.invariant-binary-loop-level
+invariant-binary-loop-level g l =
+    binary l.level (below l.deeper.depth) l.fn.left (drop l.fn.at l.deeper.tokens.now) ≡ Some (l.item, l.left, drop l.at l.deeper.tokens.now)
