@@ -535,7 +535,7 @@ fn table(rt: HostRuntime) -> Result<(), Fail> {
             count = count.saturating_add(1);
         }
     }
-    assert_eq!(rt; count, 363);
+    assert_eq!(rt; count, 364);
     Ok(())
 }
 
