@@ -2,11 +2,14 @@
 use Rattle.std.proofs.Common.{◌≡◌, ℕ, List, ◌∷◌, Bool, true, false, Option, Some, None, if◌then◌else◌, refl, ap, ◌∙◌}
 use Rattle.std.specs.Cmp.Lexicographic.{bytes_decides, nat_list_eq_equiv}
 use Rattle.std.specs.Map.{update}
-use Rattle.std.specs.Option.{option_copied, option_or}
+use Rattle.std.specs.List.{find}
+use Rattle.std.specs.Option.{option_copied, option_map, option_or}
 use Rattle.std.specs.Borrow.{Bor}
 use Rattle.std.specs.Str.{bytes_eq}
 use Rattle.qs_tree.specs.declared.constant.Const.{Const}
+use Rattle.qs_tree.specs.declared.replacement.Replacement.{Replacement}
 use Rattle.qs_tree.specs.Constants.{constant_in}
+use Rattle.qs_tree.specs.Replacements.{replacement_in}
 
 keeps_other : {X : Type 0} (p : Option X) → p ≡ option_or p None
 keeps_other None = refl
@@ -35,21 +38,30 @@ pub put_seen : {X : Type 0} (get : List ℕ → Option (Bor X)) (name key : List
     → option_copied (update bytes_eq get name (Some v) key) ≡ option_or (option_copied (get key)) (if bytes_eq key name then Some v.now else None)
 put_seen get name key v none = ap option_copied (put_absent get name key v none) ∙ seen (get key) (bytes_eq key name) v
 
--- one more constant of the list is looked up, after those before it
-pub next_constant : {X : Type 0} (old new : Option X) (b : Bool) (v : X) (rest whole : Option X)
+-- one more value of the list is looked up, after those before it
+pub next_value : {X : Type 0} (old new : Option X) (b : Bool) (v : X) (rest whole : Option X)
     → new ≡ option_or old (if b then Some v else None)
     → option_or old (if b then Some v else rest) ≡ whole
     → option_or new rest ≡ whole
-next_constant None new true v rest whole put before = rw put before
-next_constant None new false v rest whole put before = rw put before
-next_constant (Some w) new true v rest whole put before = rw put before
-next_constant (Some w) new false v rest whole put before = rw put before
+next_value None new true v rest whole put before = rw put before
+next_value None new false v rest whole put before = rw put before
+next_value (Some w) new true v rest whole put before = rw put before
+next_value (Some w) new false v rest whole put before = rw put before
 
-cons_case : (b : Bool) (c : Const) (rest : List Const) (name : List ℕ) → bytes_eq c.name name ≡ b
-    → constant_in (c ∷ rest) name ≡ (if b then Some c.value else constant_in rest name)
-cons_case true c rest name e = rw e refl
-cons_case false c rest name e = rw e refl
+cons_case : {A X : Type 0} (name_of : A → List ℕ) (value_of : A → X) (b : Bool) (a : A) (rest : List A) (name : List ℕ) → bytes_eq (name_of a) name ≡ b
+    → option_map value_of (find (λ x. bytes_eq (name_of x) name) (a ∷ rest)) ≡ (if b then Some (value_of a) else option_map value_of (find (λ x. bytes_eq (name_of x) name) rest))
+cons_case name_of value_of true a rest name e = rw e refl
+cons_case name_of value_of false a rest name e = rw e refl
+
+-- the value of a name in a list, by the list's first
+pub first_in_cons : {A X : Type 0} (name_of : A → List ℕ) (value_of : A → X) (a : A) (rest : List A) (name : List ℕ)
+    → option_map value_of (find (λ x. bytes_eq (name_of x) name) (a ∷ rest)) ≡ (if bytes_eq name (name_of a) then Some (value_of a) else option_map value_of (find (λ x. bytes_eq (name_of x) name) rest))
+first_in_cons name_of value_of a rest name = cons_case name_of value_of (bytes_eq name (name_of a)) a rest name (nat_list_eq_equiv.symm (name_of a) name)
 
 -- the constant of a name in a list, by the list's first
 pub constant_in_cons : (c : Const) (rest : List Const) (name : List ℕ) → constant_in (c ∷ rest) name ≡ (if bytes_eq name c.name then Some c.value else constant_in rest name)
-constant_in_cons c rest name = cons_case (bytes_eq name c.name) c rest name (nat_list_eq_equiv.symm c.name name)
+constant_in_cons c rest name = first_in_cons (λ x. x.name) (λ x. x.value) c rest name
+
+-- what is put in for a name by a list, by the list's first
+pub replacement_in_cons : (pair : Replacement) (rest : List Replacement) (name : List ℕ) → replacement_in (pair ∷ rest) name ≡ (if bytes_eq name pair.name.now then Some pair.by.now else replacement_in rest name)
+replacement_in_cons pair rest name = first_in_cons (λ x. x.name.now) (λ x. x.by.now) pair rest name

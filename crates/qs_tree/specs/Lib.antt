@@ -6,3 +6,5 @@ pub mod Texts
 pub mod examples
 pub mod Keys
 pub mod Reading
+pub mod Substitution
+pub mod Replacements

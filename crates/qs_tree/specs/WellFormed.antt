@@ -1,5 +1,5 @@
 -- Which trees follow the grammar (OpenQASM 3.0, grammar, in this project's profile), and how large they are.
-use Rattle.std.specs.Prelude.{ℕ, zero, suc, ◌+◌, ◌≤◌, max, nat_le, nat_lt, List, [], ◌∷◌, map, Bool, true, false, ◌&&◌, ◌||◌, not, IsTrue, codes, Option, Some, None}
+use Rattle.std.specs.Prelude.{ℕ, suc, ◌+◌, ◌≤◌, max, nat_le, nat_lt, List, [], ◌∷◌, map, Bool, true, false, ◌&&◌, ◌||◌, not, IsTrue, codes, Option, Some, None}
 use Rattle.std.specs.List.{AllByRecursion, list_all}
 use Rattle.std.specs.Str.{bytes_eq}
 use Rattle.qs_values.specs.Names.{is_name}
@@ -9,7 +9,7 @@ use Rattle.qs_tree.specs.declared.name.Ident.{Ident}
 use Rattle.qs_tree.specs.declared.pulse.CalName.{CalName}
 use Rattle.qs_tree.specs.declared.pulse.CalName.TheVariants as calibrates
 use Rattle.qs_tree.specs.declared.expr.TypeWord.{TypeWord}
-use Rattle.qs_tree.specs.declared.expr.TypeWord.TheVariants.{Bit, Int, Uint, Angle, Bool as BoolWord, Duration}
+use Rattle.qs_tree.specs.declared.expr.TypeWord.TheVariants.{Bool as BoolWord, Duration}
 use Rattle.qs_tree.specs.declared.expr.Expr.{Expr, Expr-F}
 use Rattle.qs_tree.specs.declared.expr.TypeExpr.{TypeExpr, TypeExpr-F}
 use Rattle.qs_tree.specs.declared.expr.ExprKind.{ExprKind}

@@ -1,9 +1,8 @@
-ghost use Rattle.std.specs.Prelude.{◌≡◌, ℕ, List as PureList, IfOk, OnOk, IsTrue, if◌then◌else◌};
-ghost use Rattle.std.specs.Option.{option_copied, option_or};
-ghost use Rattle.std.specs.Str.{bytes_eq};
-ghost use Rattle.qs_tree.specs.Keys.{value_at};
+ghost use Rattle.std.specs.Prelude.{◌≡◌, ℕ, List as PureList, IfOk, IsTrue};
+ghost use Rattle.std.specs.Option.{option_copied};
 ghost use Rattle.qs_tree.specs.Texts.{is_bits};
 
+use crate::keys::put_first;
 use qs_values::{List, Name, Num};
 use std::alloc::{AllocError, Global};
 use std::collections::HashMap;
@@ -83,23 +82,6 @@ impl Consts {
         }
         Ok(ConstTable { values })
     }
-}
-
-/// Puts a constant into a map, unless one of its name stands there.
-fn put_first<'a>(
-    values: &mut HashMap<&'a str, &'a ConstVal>,
-    name: &'a str,
-    value: &'a ConstVal,
-) -> Result<(), AllocError>
-    ensures { OnOk result
-        ((key : PureList ℕ) → value_at values.new key
-        ≡ option_or (value_at values.old key)
-        (if bytes_eq key name.now then Some value.now else None)) }
-{
-    if !values.contains_key(name) {
-        values.insert(name, value)?;
-    }
-    Ok(())
 }
 
 impl<'a> ConstTable<'a> {

@@ -4,15 +4,21 @@
 
 mod assign;
 mod constant;
+mod copies;
 mod expr;
 mod gate;
+mod keys;
 mod name;
 mod operand;
 mod operator;
 mod pulse;
 mod reading;
+mod replacement;
 mod source;
 mod statement;
+mod substitution;
+#[cfg(test)]
+mod tests;
 mod text;
 
 pub use assign::AssignOp;
@@ -24,6 +30,8 @@ pub use operand::{Operand, Place, Value};
 pub use operator::{BinOp, UnOp};
 pub use pulse::{CalName, Item, Param};
 pub use reading::{Variables, expr_reads};
+pub use replacement::{Replacement, ReplacementTable, Replacing, Unchanged, expr_copied};
 pub use source::Source;
 pub use statement::{Body, Range, Stmt, StmtKind};
+pub use substitution::substituted;
 pub use text::bits_of;
