@@ -1,15 +1,17 @@
 -- Runs of ASCII with which the reader's state stays as it is, and the piece that ends after one.
-use Rattle.std.proofs.Common.{◌≡◌, ◌≢◌, ℕ, zero, suc, ◌<◌, ◌≤◌, List, [], ◌∷◌, ◌++◌, Bool, true, false, ◌&&◌, not, nat_eq, nat_lt, Option, Some, None, length, IfSome, inl, inr, refl, sym, ap, ◌∙◌, subst, arith, append_assoc, length-append}
+use Rattle.std.proofs.Common.{◌≡◌, ◌≢◌, ℕ, zero, suc, ◌-◌, ◌<◌, ◌≤◌, List, [], ◌∷◌, ◌++◌, Bool, true, false, ◌&&◌, not, if◌then◌else◌, nat_eq, Option, Some, None, length, IfSome, inl, inr, refl, sym, ap, ◌∙◌, subst, arith, append_assoc, length-append}
+use Rattle.std.specs.Char.{is_ascii_digit}
 use Rattle.std.specs.List.{list_all, slice_get, slice_index}
 use Rattle.std.proofs.lemmas.List.Folds.{list_all-append}
 use Rattle.std.specs.Str.{IsAscii, chars}
 use Rattle.std.proofs.lemmas.Bool.Decides.{nat_tests}
 use Rattle.std.proofs.lemmas.Str.{chars-nil, chars-append, chars-IsAscii, IsUtf8-from_ascii}
 use Rattle.qs_lexer.specs.declared.shape.Shape.{Shape}
+use Rattle.qs_lexer.specs.declared.shape.Shape.TheVariants.{Word as WordShape}
 use Rattle.qs_lexer.specs.declared.state.State.{State}
-use Rattle.qs_lexer.specs.declared.state.State.TheVariants.{Nothing, Start}
+use Rattle.qs_lexer.specs.declared.state.State.TheVariants.{Dollar, Line, Nothing, Physical, Slash, Start, Word}
 use Rattle.qs_lexer.specs.Forms.{is_in_line}
-use Rattle.qs_lexer.specs.steps.Runs.{AllStay, IsAsciiPiece, IsPast, MayEnd, ReadsOn, Stops, StaysWith}
+use Rattle.qs_lexer.specs.steps.Runs.{AllStay, BeginsOnlyWord, IsAsciiPiece, IsPast, IsRead, MayEnd, ReadsOn, ReadsTo, Stops, StaysWith, is_ascii_byte}
 use Rattle.qs_lexer.specs.steps.Scan.{Found, found_at, later, longest_from, run, shape_before, step}
 use Rattle.qs_lexer.proofs.ReaderLemmas.{found_from_nothing}
 use Rattle.qs_lexer.proofs.Runs.{run-append}
@@ -26,15 +28,24 @@ past_one s b bytes after rest first stays past = record {
   stay = (stays, past.stay);
 }
 
+both_stay : (s : State) (t u : List ℕ) → AllStay s t → AllStay s u → AllStay s (t ++ u)
+both_stay s [] u stay more = more
+both_stay s (b ∷ t) u stay more = (stay.0, both_stay s t u stay.1 more)
+
+-- a run after a run
+pub past_more : (s : State) (bytes middle rest : List ℕ) → IsPast s bytes middle → IsPast s middle rest → IsPast s bytes rest
+past_more s bytes middle rest past more = record {
+  front = past.front ++ more.front;
+  whole = past.whole ∙ ap (λ t. past.front ++ t) more.whole ∙ sym (append_assoc past.front more.front rest);
+  stay = both_stay s past.front more.front past.stay more.stay;
+}
+
 -- the state after a run
 stays_all : (s : State) (t : List ℕ) → AllStay s t → run s t ≡ s
 stays_all s [] stay = refl
 stays_all s (b ∷ bytes) stay = ap (λ n. run n bytes) stay.0.stays ∙ stays_all s bytes stay.1
 
 -- ---- bytes of ASCII
-
-abbrev pub is_ascii_byte : ℕ → Bool
-is_ascii_byte b = nat_lt b 128
 
 both_true : (a b : Bool) → a ≡ true → b ≡ true → (a && b) ≡ true
 both_true a b p q = rw (p, q) refl
@@ -74,14 +85,6 @@ chars_past_ascii t rest ascii = chars-append t rest (IsUtf8-from_ascii t ascii) 
 
 -- ---- what is read of a piece
 
--- So far these bytes are read, all of them of ASCII, and this is the state.
-pub record IsRead (first : Bool) (bytes : List ℕ) (state : State) (in_line : Bool) (rest : List ℕ) : Type 0 where
-  pub front : List ℕ
-  pub whole : bytes ≡ front ++ rest
-  pub ascii : list_all is_ascii_byte front ≡ true
-  pub at : run (Start first) front ≡ state
-  pub line : in_line ≡ true → list_all is_in_line front ≡ true
-
 pub read_nothing : (first : Bool) (bytes : List ℕ) → IsRead first bytes (Start first) true bytes
 read_nothing first bytes = record { front = []; whole = refl; ascii = refl; at = refl; line = λ e. refl }
 
@@ -115,7 +118,7 @@ read_run first bytes s in_line rest run_end read past = record {
 
 -- ---- where a piece ends
 
-first_char_is : (b : ℕ) (rest after : List ℕ) → rest ≡ b ∷ after → b < 128 → chars rest ≡ b ∷ chars after
+pub first_char_is : (b : ℕ) (rest after : List ℕ) → rest ≡ b ∷ after → b < 128 → chars rest ≡ b ∷ chars after
 first_char_is b rest after is small = ap chars is ∙ chars_past_ascii (b ∷ []) after (one_ascii b small)
 
 stopped : (s : State) (b : ℕ) (cs : List ℕ) → step s b ≡ Nothing → longest_from s (b ∷ cs) ≡ None
@@ -210,3 +213,59 @@ stops_at state bytes rest past stops = record { run_end = rest; past = past; the
 
 pub goes_on : (state onto : State) (bytes rest after : List ℕ) (b : ℕ) → IsPast state bytes rest → rest ≡ b ∷ after → b < 128 → onto ≡ step state b → ¬ (onto ≡ Nothing) → ReadsOn state bytes onto after (not (nat_eq b 10))
 goes_on state onto bytes rest after b past is small stepped on = record { run_end = rest; past = past; then = inr (b, is, small, stepped, on, refl) }
+
+-- ---- a word
+
+pub word_ends : (first : Bool) (bytes : List ℕ) (b : ℕ) (after rest : List ℕ) (onto : State) (line : Bool) → bytes ≡ b ∷ after → BeginsOnlyWord first b → ReadsOn Word after onto rest line → onto ≡ Nothing
+    → IsAsciiPiece first bytes WordShape (length bytes - length rest) (not (nat_eq b 10))
+word_ends first bytes b after rest onto line is begins reads nothing =
+    let read = read_one first bytes (Start first) Word true bytes b after after (read_nothing first bytes) is begins.ascii (sym begins.begins) (past_nothing Word after) in
+    let ends = reads_end first bytes Word onto (not (nat_eq b 10)) line after rest read reads nothing in
+    piece_ends first bytes Word (not (nat_eq b 10)) rest WordShape (length bytes - length rest) ends.0 ends.1 (refl, refl)
+
+-- ---- pieces that begin with two characters
+
+pub slashes_read : (first : Bool) (bytes after rest : List ℕ) (a b : ℕ) → bytes ≡ a ∷ after → after ≡ b ∷ rest → a ≡ 47 → b ≡ 47 → IsRead first bytes Line true rest
+slashes_read first bytes after rest a b is more one two =
+    let begun = read_one first bytes (Start first) Slash true bytes a after after (read_nothing first bytes) is (omega (arith, one)) (ap (λ c. step (Start first) c) (sym one)) (past_nothing Slash after) in
+    let both = read_one first bytes Slash Line (not (nat_eq a 10)) after b rest rest begun more (omega (arith, two)) (ap (λ c. step Slash c) (sym two)) (past_nothing Line rest) in
+    subst (λ in_line. IsRead first bytes Line in_line rest) (ap (λ c. not (nat_eq c 10) && not (nat_eq b 10)) one ∙ ap (λ c. not (nat_eq c 10)) two) both
+
+digit_small : (b : ℕ) → is_ascii_digit b ≡ true → b < 128
+digit_small b h = grind (arith, nat_tests)
+
+digit_in_line : (b : ℕ) → is_ascii_digit b ≡ true → not (nat_eq b 10) ≡ true
+digit_in_line b h = grind (arith, nat_tests)
+
+pub qubit_read : (first : Bool) (bytes after rest : List ℕ) (a b : ℕ) → bytes ≡ a ∷ after → after ≡ b ∷ rest → a ≡ 36 → is_ascii_digit b ≡ true → IsRead first bytes Physical true rest
+qubit_read first bytes after rest a b is more one digit =
+    let begun = read_one first bytes (Start first) Dollar true bytes a after after (read_nothing first bytes) is (omega (arith, one)) (dollar first ∙ ap (λ c. step (Start first) c) (sym one)) (past_nothing Dollar after) in
+    let digits : Physical ≡ step Dollar b = ap (λ d. if d then Physical else Nothing) (sym digit) in
+    let both = read_one first bytes Dollar Physical (not (nat_eq a 10)) after b rest rest begun more (digit_small b digit) digits (past_nothing Physical rest) in
+    subst (λ in_line. IsRead first bytes Physical in_line rest) (ap (λ c. not (nat_eq c 10) && not (nat_eq b 10)) one ∙ digit_in_line b digit) both
+  where
+    dollar : (f : Bool) → Dollar ≡ step (Start f) 36
+    dollar true = refl
+    dollar false = refl
+
+-- ---- from state to state
+
+reads_to_next : (first : Bool) (bytes : List ℕ) (s onto : State) (in_line line : Bool) (rest after : List ℕ) → IsRead first bytes s in_line rest → ReadsOn s rest onto after line → ¬ (onto ≡ Nothing) → ReadsTo first bytes s in_line onto after (in_line && line)
+reads_to_next first bytes s onto in_line line rest after read reads on = inr (on, (reads_more first bytes s onto in_line line rest after read reads on).0)
+
+reads_to_end : (first : Bool) (bytes : List ℕ) (s onto : State) (in_line line next_in_line : Bool) (rest after : List ℕ) → IsRead first bytes s in_line rest → ReadsOn s rest onto after line → onto ≡ Nothing → ReadsTo first bytes s in_line onto after next_in_line
+reads_to_end first bytes s onto in_line line next_in_line rest after read reads ends =
+    let there = reads_end first bytes s onto in_line line rest after read reads ends in
+    inl (ends, there.0, there.1)
+
+pub reads_to : (first : Bool) (bytes : List ℕ) (s onto : State) (in_line line : Bool) (rest after : List ℕ) → IsRead first bytes s in_line rest → ReadsOn s rest onto after line → ReadsTo first bytes s in_line onto after (in_line && line)
+reads_to first bytes s onto in_line line rest after read reads =
+    elim reads.then as (λ _. ReadsTo first bytes s in_line onto after (in_line && line)) [
+      | inl stops ↦ reads_to_end first bytes s onto in_line line (in_line && line) rest after read reads stops.0
+      | inr goes ↦ reads_to_next first bytes s onto in_line line rest after read reads goes.4
+    ]
+
+pub to_end : (first : Bool) (bytes : List ℕ) (s onto : State) (in_line line : Bool) (rest : List ℕ) → ReadsTo first bytes s in_line onto rest line → onto ≡ Nothing
+    → (r : Option (Shape × ℕ × Bool)) → IfSome r (λ p. MayEnd s bytes rest p.0 p.1 × (p.2 ≡ in_line)) → IfSome r (λ p. IsAsciiPiece first bytes p.0 p.1 p.2)
+to_end first bytes s onto in_line line rest (inl ends) is r may = pieces_end first bytes s in_line rest ends.1 ends.2 r may
+to_end first bytes s onto in_line line rest (inr goes) is r may = absurd (goes.0 is)

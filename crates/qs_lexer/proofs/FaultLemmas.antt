@@ -17,6 +17,7 @@ use Rattle.qs_lexer.specs.Values.{IsTooWide, KindIs, scaled}
 use Rattle.qs_values.proofs.OneQuotient.{answer_excludes_wide}
 use Rattle.qs_lexer.specs.Cut.{place_behind_all, start}
 use Rattle.qs_lexer.specs.Lexed.{HasFault, IsClear, IsFaultAt, IsPieceFault, IsReadable, LexIs, Stands, text_of}
+use Rattle.qs_lexer.specs.steps.Scan.{FailsNext}
 use Rattle.qs_lexer.proofs.FrontLemmas.{IsFront}
 use Rattle.qs_lexer.proofs.TextLemmas.{empty_from_chars, empty_if, some_if}
 
@@ -41,13 +42,10 @@ module _ {bytes text tail rest : List ℕ} {place : Span} {first : Bool} {tokens
         (subst (λ s. IsFaultAt first (chars rest) tail (length tokens) s refusal) front.at fault);
   })
 
-  -- a fault of a piece that stands
-  pub piece_fails : (refusal : LexRefusal) (form : Shape) (t : List ℕ) → Stands first (chars rest) tail form t → (refusal ≡ Memory) ⊎ IsPieceFault (length tokens) place form t refusal → LexIs bytes (Err refusal)
-  piece_fails refusal form t stands (inl memory) = subst (λ r. LexIs bytes (Err r)) (sym memory) tt
-  piece_fails (NotUtf8 span) form t stands (inr fault) = absurd fault
-  piece_fails (BadChar span) form t stands (inr fault) = absurd fault
-  piece_fails Memory form t stands (inr fault) = absurd fault
-  piece_fails refusal form t stands (inr fault) = fails refusal (form, t, stands, fault)
+  -- a fault of what begins the rest
+  pub next_fails : (refusal : LexRefusal) → FailsNext first place rest tail (length tokens) refusal → LexIs bytes (Err refusal)
+  next_fails refusal (inl memory) = subst (λ r. LexIs bytes (Err r)) (sym memory) tt
+  next_fails refusal (inr fault) = fails refusal fault
 
   -- all is cut
   pub all_cut : rest ≡ [] → tail ≡ [] → LexIs bytes (Ok tokens)
@@ -61,6 +59,14 @@ module _ {bytes text tail rest : List ℕ} {place : Span} {first : Bool} {tokens
         are = front.are;
         few = front.few;
       }
+
+-- a fault of a piece that stands
+pub piece_fails : (first : Bool) (text tail : List ℕ) (count : ℕ) (place : Span) (refusal : LexRefusal) (form : Shape) (t : List ℕ) → Stands first (chars text) tail form t → (refusal ≡ Memory) ⊎ IsPieceFault count place form t refusal → FailsNext first place text tail count refusal
+piece_fails first text tail count place refusal form t stands (inl memory) = inl memory
+piece_fails first text tail count place (NotUtf8 span) form t stands (inr fault) = absurd fault
+piece_fails first text tail count place (BadChar span) form t stands (inr fault) = absurd fault
+piece_fails first text tail count place Memory form t stands (inr fault) = absurd fault
+piece_fails first text tail count place refusal form t stands (inr fault) = inr (form, t, stands, fault)
 
 -- what has a kind isn't past its limit
 pub kind_excludes_wide : (form : Shape) (t : List ℕ) (kind : TokenKind) → KindIs form t kind → ¬ (IsTooWide form t)

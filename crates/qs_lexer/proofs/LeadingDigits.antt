@@ -17,7 +17,7 @@ is_decimal c = is_digit c 10
 abbrev pub digits_of : List ℕ → List ℕ
 digits_of t = filter is_decimal t
 
-digit_below : (c : ℕ) → is_decimal c ≡ true → digit_value c < 10
+pub digit_below : (c : ℕ) → is_decimal c ≡ true → digit_value c < 10
 digit_below c h = grind (arith, nat_tests)
 
 -- one more division by 10

@@ -32,3 +32,5 @@ pub mod PieceOnce
 pub mod ReadableOnce
 pub mod EndOnce
 pub mod CutOnce
+pub mod Powers
+pub mod ShortMantissas

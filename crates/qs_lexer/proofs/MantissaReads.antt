@@ -1,13 +1,13 @@
 -- A mantissa, read character by character.
-use Rattle.std.proofs.Common.{◌≡◌, ℕ, ◌+◌, ◌≤◌, ◌^◌, List, [], ◌∷◌, Bool, true, false, ◌||◌, ◌&&◌, if◌then◌else◌, nat_eq, cond, not, take, drop, length, zero, suc, refl, ap, sym, ◌∙◌, arith}
+use Rattle.std.proofs.Common.{◌≡◌, ℕ, ◌+◌, ◌≤◌, ◌^◌, List, [], ◌∷◌, Bool, true, false, ◌||◌, if◌then◌else◌, nat_eq, cond, not, take, drop, suc, refl, ap, sym, ◌∙◌, arith}
 use Rattle.std.specs.Prelude.{min}
 use Rattle.std.specs.Char.{is_ascii_digit}
 use Rattle.std.specs.List.{count_by, fold, prefix_len}
 use Rattle.std.proofs.lemmas.Bool.{eqb-true}
 use Rattle.std.proofs.lemmas.List.Sums.{sum_by-cons}
-use Rattle.qs_lexer.specs.Values.{behind_mantissa, is_mantissa, is_no_point, mantissa, places, value_of, with_digit}
+use Rattle.qs_lexer.specs.Values.{behind_mantissa, is_mantissa, is_no_point, mantissa, places, value_of}
 use Rattle.qs_lexer.proofs.CutFolds.{cut_digits}
-use Rattle.qs_lexer.specs.steps.Mantissas.{places_ahead, places_with}
+use Rattle.qs_lexer.specs.steps.Mantissas.{IsReadTo, cut_digit_of, places_ahead, places_with}
 
 take_one : (k c : ℕ) (cs : List ℕ) → take (1 + k) (c ∷ cs) ≡ c ∷ take k cs
 take_one k c cs = ap (λ n. take n (c ∷ cs)) (let e : 1 + k ≡ suc k = omega arith in e)
@@ -61,15 +61,6 @@ places_step false n c m = by (nat_eq c 46) refl
     by : (b : Bool) → nat_eq c 46 ≡ b → n + places_ahead b m ≡ n + places (c ∷ m)
     by true e = ap (λ k. n + k) (sym (places_more c m ∙ ap (λ b. if b then count_by is_ascii_digit (c ∷ m) else places m) e ∙ point_counts c m (eqb-true c 46 e)))
     by false e = ap (λ k. n + k) (sym (places_more c m ∙ ap (λ b. if b then count_by is_ascii_digit (c ∷ m) else places m) e))
-
-abbrev pub cut_digit_of : ℕ → ℕ → ℕ
-cut_digit_of n d = min (with_digit 10 n d) (10 ^ 36)
-
--- what is read of a mantissa, where `text` is left of `all`
-pub record IsReadTo (all text : List ℕ) (value places_read : ℕ) (pointed : Bool) : Type 0 where
-  pub same : fold cut_digit_of value (mantissa text) ≡ fold cut_digit_of 0 (mantissa all)
-  pub places : places_read + places_ahead pointed (mantissa text) ≡ places (mantissa all)
-  pub behind : behind_mantissa text ≡ behind_mantissa all
 
 pub read_begins : (all : List ℕ) → IsReadTo all all 0 0 false
 read_begins all = record { same = refl; places = omega arith; behind = refl }

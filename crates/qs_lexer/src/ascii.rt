@@ -1,9 +1,12 @@
-ghost use Rattle.std.specs.Prelude.{◌≡◌, ◌≤◌, Bool, IfSome, length, slice_get};
+ghost use Rattle.std.specs.Prelude.{◌≡◌, ◌≤◌, Bool, true, IfSome, IsTrue, length, slice_get};
 ghost use Rattle.std.specs.Bool.{OnTrue};
-ghost use Rattle.qs_lexer.specs.steps.Runs.{IsPast, IsAsciiPiece, MayEnd, ReadsOn, StaysWith, is_single_sign};
+ghost use Rattle.qs_lexer.specs.declared.state.State.TheVariants.{Digits, Ended, Exponent, Half, Letter, Line as LineState, Part, Pointed, Signed, Word as WordState, Zero};
+ghost use Rattle.qs_lexer.specs.Forms.{is_blank};
+ghost use Rattle.qs_lexer.specs.steps.Runs.{BeginsOnlyWord, IsPast, IsRead, ReadsTo, IsAsciiPiece, MayEnd, ReadsOn, StaysWith, is_single_sign};
 
 use crate::shape::Shape;
-use crate::state::{Base, State, is_blank, shape_before, step};
+use crate::state::{Base, State, shape_before, step};
+use crate::token::Unit;
 
 /// Whether a piece stays in a state with a byte that is of ASCII and no line feed. It may do so
 /// with others too, which are read one by one.
@@ -23,9 +26,9 @@ fn stays_with(state: State, byte: u8) -> bool
     }
 }
 
-/// The bytes after those with which a piece stays in a state.
+/// The bytes after those with which a piece stays in a state, one after another.
 #[inline(always)]
-fn past(state: State, bytes: &[u8]) -> &[u8]
+fn past_each(state: State, bytes: &[u8]) -> &[u8]
     ensures { IsPast state bytes.now result.now }
 {
     let mut rest = bytes;
@@ -36,6 +39,93 @@ fn past(state: State, bytes: &[u8]) -> &[u8]
         rest = after;
     }
     rest
+}
+
+/// Whether a piece stays a word with a byte, which holds of small letters, the most common ones.
+#[inline(always)]
+fn is_small_letter(byte: u8) -> bool
+    ensures { OnTrue result (StaysWith WordState byte) }
+{
+    byte.is_ascii_lowercase()
+}
+
+/// The bytes after small letters, with which a piece stays a word.
+#[inline(always)]
+fn past_small_letters(bytes: &[u8]) -> &[u8]
+    ensures { IsPast WordState bytes.now result.now }
+{
+    let mut rest = bytes;
+    while let Some((byte, after)) = rest.split_first() {
+        if !is_small_letter(*byte) {
+            return rest;
+        }
+        rest = after;
+    }
+    rest
+}
+
+/// The bytes after those with which a piece stays a word.
+#[inline(always)]
+fn past_word(bytes: &[u8]) -> &[u8]
+    ensures { IsPast WordState bytes.now result.now }
+{
+    let mut rest = past_small_letters(bytes);
+    while let Some((byte, after)) = rest.split_first() {
+        if !stays_with(State::Word, *byte) {
+            return rest;
+        }
+        rest = past_small_letters(after);
+    }
+    rest
+}
+
+/// Whether a piece stays in its line with a byte, which holds of printed ones, the most common.
+#[inline(always)]
+fn is_printed(byte: u8) -> bool
+    ensures { OnTrue result (StaysWith LineState byte) }
+{
+    b' ' <= byte && byte <= b'~'
+}
+
+/// The bytes after printed ones, with which a piece stays in its line.
+#[inline(always)]
+fn past_printed(bytes: &[u8]) -> &[u8]
+    ensures { IsPast LineState bytes.now result.now }
+{
+    let mut rest = bytes;
+    while let Some((byte, after)) = rest.split_first() {
+        if !is_printed(*byte) {
+            return rest;
+        }
+        rest = after;
+    }
+    rest
+}
+
+/// The bytes after those with which a piece stays in its line.
+fn past_line(bytes: &[u8]) -> &[u8]
+    ensures { IsPast LineState bytes.now result.now }
+{
+    let mut rest = past_printed(bytes);
+    while let Some((byte, after)) = rest.split_first() {
+        if !stays_with(State::Line, *byte) {
+            return rest;
+        }
+        rest = past_printed(after);
+    }
+    rest
+}
+
+/// The bytes after those with which a piece stays in a state.
+#[inline(always)]
+fn past(state: State, bytes: &[u8]) -> &[u8]
+    ensures { IsPast state bytes.now result.now }
+{
+    match state {
+        State::Word => past_word(bytes),
+        State::Line => past_line(bytes),
+        _ => past_each(state, bytes),
+    }
 }
 
 /// The first byte as a character.
@@ -122,24 +212,330 @@ fn is_single_sign(c: char) -> bool
     matches!(c, '(' | ')' | '[' | ']' | '{' | '}' | ':' | ';' | ',' | '~')
 }
 
-/// A blank or a sign with which no longer sign begins, which is a piece whatever comes next: its
-/// shape, its length, and whether it is no line feed.
+/// Whether a character is a blank that isn't a line feed.
 #[inline(always)]
-fn single_piece(bytes: &[u8]) -> Option<(Shape, usize, bool)>
+fn is_spacing(c: char) -> bool
+    ensures { OnTrue result (IsTrue (is_blank c)) }
+{
+    c == ' ' || c == '\t' || c == '\r'
+}
+
+/// Whether a character is a line feed, which is a blank too.
+#[inline(always)]
+fn is_line_feed(c: char) -> bool
+    ensures { OnTrue result (IsTrue (is_blank c)) }
+{
+    c == '\n'
+}
+
+/// A blank that isn't a line feed, which is a piece whatever comes next: its shape, its length, and
+/// whether it is no line feed.
+#[inline(always)]
+pub fn spacing(bytes: &[u8]) -> Option<(Shape, usize, bool)>
     ensures { (first : Bool) → IfSome result (λ p. IsAsciiPiece first bytes.now p.0 p.1 p.2) }
 {
     let c = first_char(bytes)?;
-    if is_blank(c) {
+    if is_spacing(c) {
         return Some((Shape::Gap, 1, c != '\n'));
     }
+    None
+}
+
+/// A line feed, which is a piece whatever comes next.
+#[inline(always)]
+pub fn line_feed(bytes: &[u8]) -> Option<(Shape, usize, bool)>
+    ensures { (first : Bool) → IfSome result (λ p. IsAsciiPiece first bytes.now p.0 p.1 p.2) }
+{
+    let c = first_char(bytes)?;
+    if is_line_feed(c) {
+        return Some((Shape::Gap, 1, c != '\n'));
+    }
+    None
+}
+
+/// A sign with which no longer sign begins, which is a piece whatever comes next.
+#[inline(always)]
+pub fn single_sign(bytes: &[u8]) -> Option<(Shape, usize, bool)>
+    ensures { (first : Bool) → IfSome result (λ p. IsAsciiPiece first bytes.now p.0 p.1 p.2) }
+{
+    let c = first_char(bytes)?;
     if is_single_sign(c) {
         return Some((Shape::Sign, 1, c != '\n'));
     }
     None
 }
 
-/// The longest piece that begins a text, state by state.
-fn any_ascii_piece(first: bool, bytes: &[u8]) -> Option<(Shape, usize, bool)>
+/// Whether a byte is an ASCII letter or `_` that begins a word and no pragma.
+#[inline(always)]
+fn begins_only_word(first: bool, byte: u8) -> bool
+    ensures { OnTrue result (BeginsOnlyWord first byte) }
+{
+    if first && byte == b'p' {
+        return false;
+    }
+    byte.is_ascii_lowercase() || byte.is_ascii_uppercase() || byte == b'_'
+}
+
+/// A word of ASCII that can't begin a pragma, where what comes next is of ASCII too.
+#[inline(always)]
+pub fn plain_word(first: bool, bytes: &[u8]) -> Option<(Shape, usize, bool)>
+    ensures { IfSome result (λ p. IsAsciiPiece first bytes.now p.0 p.1 p.2) }
+{
+    let (byte, after) = bytes.split_first()?;
+    if !begins_only_word(first, *byte) {
+        return None;
+    }
+    match read_on(State::Word, after)? {
+        (State::Nothing, rest, _) => Some((Shape::Word, bytes.len() - rest.len(), *byte != b'\n')),
+        _ => None,
+    }
+}
+
+/// A piece of which so much is read that it is in a state, where it ends after a run with which it
+/// stays in that state.
+#[inline(always)]
+fn run_to_end(first: bool, bytes: &[u8], state: State, rest: &[u8]) -> Option<(Shape, usize, bool)>
+    requires { IsRead first bytes.now state true rest.now }
+    ensures { IfSome result (λ p. IsAsciiPiece first bytes.now p.0 p.1 p.2) }
+{
+    match read_on(state, rest)? {
+        (State::Nothing, after, _) => piece_before(state, bytes, after, true),
+        _ => None,
+    }
+}
+
+/// A comment to the end of the line, where it and what comes next are of ASCII.
+#[inline(always)]
+pub fn line_comment(first: bool, bytes: &[u8]) -> Option<(Shape, usize, bool)>
+    ensures { IfSome result (λ p. IsAsciiPiece first bytes.now p.0 p.1 p.2) }
+{
+    let (slash, after) = bytes.split_first()?;
+    if *slash != b'/' {
+        return None;
+    }
+    let (second, rest) = after.split_first()?;
+    if *second != b'/' {
+        return None;
+    }
+    run_to_end(first, bytes, State::Line, rest)
+}
+
+/// A physical qubit, where what comes next is of ASCII.
+#[inline(always)]
+pub fn physical(first: bool, bytes: &[u8]) -> Option<(Shape, usize, bool)>
+    ensures { IfSome result (λ p. IsAsciiPiece first bytes.now p.0 p.1 p.2) }
+{
+    let (dollar, after) = bytes.split_first()?;
+    if *dollar != b'$' {
+        return None;
+    }
+    let (digit, rest) = after.split_first()?;
+    if !digit.is_ascii_digit() {
+        return None;
+    }
+    run_to_end(first, bytes, State::Physical, rest)
+}
+
+/// A piece of which so much is read that it is in a state, read on: the next state, the bytes after
+/// it, and whether no line feed was read. `Nothing` where nothing goes on with it.
+#[inline(always)]
+fn read_to<'a>(
+    first: bool,
+    bytes: &[u8],
+    state: State,
+    in_line: bool,
+    rest: &'a [u8],
+) -> Option<(State, &'a [u8], bool)>
+    requires { IsRead first bytes.now state in_line rest.now }
+    ensures { IfSome result (λ p. ReadsTo first bytes.now state in_line p.0 p.1.now p.2) }
+{
+    let (next, after, is_in_line) = read_on(state, rest)?;
+    Some((next, after, in_line & is_in_line))
+}
+
+/// A number, as often met, of which the digits of its exponent was read.
+#[inline(always)]
+fn from_exponent(
+    first: bool,
+    bytes: &[u8],
+    in_line: bool,
+    rest: &[u8],
+) -> Option<(Shape, usize, bool)>
+    requires { IsRead first bytes.now (Exponent true) in_line rest.now }
+    ensures { IfSome result (λ p. IsAsciiPiece first bytes.now p.0 p.1 p.2) }
+{
+    let (next, after, line) = read_to(first, bytes, State::Exponent(true), in_line, rest)?;
+    match next {
+        State::Nothing => piece_before(State::Exponent(true), bytes, after, in_line),
+        _ => None,
+    }
+}
+
+/// A number, as often met, of which the sign of its exponent was read.
+#[inline(always)]
+fn from_signed(
+    first: bool,
+    bytes: &[u8],
+    in_line: bool,
+    rest: &[u8],
+) -> Option<(Shape, usize, bool)>
+    requires { IsRead first bytes.now (Signed) in_line rest.now }
+    ensures { IfSome result (λ p. IsAsciiPiece first bytes.now p.0 p.1 p.2) }
+{
+    let (next, after, line) = read_to(first, bytes, State::Signed, in_line, rest)?;
+    match next {
+        State::Exponent(true) => from_exponent(first, bytes, line, after),
+        _ => None,
+    }
+}
+
+/// A number, as often met, of which the letter of its exponent was read.
+#[inline(always)]
+fn from_letter(
+    first: bool,
+    bytes: &[u8],
+    in_line: bool,
+    rest: &[u8],
+) -> Option<(Shape, usize, bool)>
+    requires { IsRead first bytes.now (Letter) in_line rest.now }
+    ensures { IfSome result (λ p. IsAsciiPiece first bytes.now p.0 p.1 p.2) }
+{
+    let (next, after, line) = read_to(first, bytes, State::Letter, in_line, rest)?;
+    match next {
+        State::Signed => from_signed(first, bytes, line, after),
+        State::Exponent(true) => from_exponent(first, bytes, line, after),
+        _ => None,
+    }
+}
+
+/// A number, as often met, of which its unit was read.
+#[inline(always)]
+fn from_unit(
+    first: bool,
+    bytes: &[u8],
+    unit: Unit,
+    in_line: bool,
+    rest: &[u8],
+) -> Option<(Shape, usize, bool)>
+    requires { IsRead first bytes.now (Ended unit) in_line rest.now }
+    ensures { IfSome result (λ p. IsAsciiPiece first bytes.now p.0 p.1 p.2) }
+{
+    let (next, after, line) = read_to(first, bytes, State::Ended(unit), in_line, rest)?;
+    match next {
+        State::Nothing => piece_before(State::Ended(unit), bytes, after, in_line),
+        _ => None,
+    }
+}
+
+/// A number, as often met, of which the first letter of its unit was read.
+#[inline(always)]
+fn from_half(
+    first: bool,
+    bytes: &[u8],
+    unit: Unit,
+    in_line: bool,
+    rest: &[u8],
+) -> Option<(Shape, usize, bool)>
+    requires { IsRead first bytes.now (Half unit) in_line rest.now }
+    ensures { IfSome result (λ p. IsAsciiPiece first bytes.now p.0 p.1 p.2) }
+{
+    let (next, after, line) = read_to(first, bytes, State::Half(unit), in_line, rest)?;
+    match next {
+        State::Ended(whole) => from_unit(first, bytes, whole, line, after),
+        _ => None,
+    }
+}
+
+/// A number, as often met, of which digits after its point was read.
+#[inline(always)]
+fn from_part(first: bool, bytes: &[u8], in_line: bool, rest: &[u8]) -> Option<(Shape, usize, bool)>
+    requires { IsRead first bytes.now (Part true) in_line rest.now }
+    ensures { IfSome result (λ p. IsAsciiPiece first bytes.now p.0 p.1 p.2) }
+{
+    let (next, after, line) = read_to(first, bytes, State::Part(true), in_line, rest)?;
+    match next {
+        State::Nothing => piece_before(State::Part(true), bytes, after, in_line),
+        State::Letter => from_letter(first, bytes, line, after),
+        State::Half(unit) => from_half(first, bytes, unit, line, after),
+        _ => None,
+    }
+}
+
+/// A number, as often met, of which digits and its point was read.
+#[inline(always)]
+fn from_pointed(
+    first: bool,
+    bytes: &[u8],
+    in_line: bool,
+    rest: &[u8],
+) -> Option<(Shape, usize, bool)>
+    requires { IsRead first bytes.now (Pointed) in_line rest.now }
+    ensures { IfSome result (λ p. IsAsciiPiece first bytes.now p.0 p.1 p.2) }
+{
+    let (next, after, line) = read_to(first, bytes, State::Pointed, in_line, rest)?;
+    match next {
+        State::Nothing => piece_before(State::Pointed, bytes, after, in_line),
+        State::Part(true) => from_part(first, bytes, line, after),
+        _ => None,
+    }
+}
+
+/// A number, as often met, of which a `0` was read.
+#[inline(always)]
+fn from_zero(first: bool, bytes: &[u8], in_line: bool, rest: &[u8]) -> Option<(Shape, usize, bool)>
+    requires { IsRead first bytes.now (Zero) in_line rest.now }
+    ensures { IfSome result (λ p. IsAsciiPiece first bytes.now p.0 p.1 p.2) }
+{
+    let (next, after, line) = read_to(first, bytes, State::Zero, in_line, rest)?;
+    match next {
+        State::Nothing => piece_before(State::Zero, bytes, after, in_line),
+        State::Pointed => from_pointed(first, bytes, line, after),
+        _ => None,
+    }
+}
+
+/// A number, as often met, of which digits was read.
+#[inline(always)]
+fn from_digits(
+    first: bool,
+    bytes: &[u8],
+    in_line: bool,
+    rest: &[u8],
+) -> Option<(Shape, usize, bool)>
+    requires { IsRead first bytes.now (Digits true) in_line rest.now }
+    ensures { IfSome result (λ p. IsAsciiPiece first bytes.now p.0 p.1 p.2) }
+{
+    let (next, after, line) = read_to(first, bytes, State::Digits(true), in_line, rest)?;
+    match next {
+        State::Nothing => piece_before(State::Digits(true), bytes, after, in_line),
+        State::Pointed => from_pointed(first, bytes, line, after),
+        State::Half(unit) => from_half(first, bytes, unit, line, after),
+        _ => None,
+    }
+}
+
+/// A decimal number, a whole one or with a point, an exponent or a unit, in the forms that are met
+/// often, where what comes next is of ASCII.
+#[inline(always)]
+pub fn number(first: bool, bytes: &[u8]) -> Option<(Shape, usize, bool)>
+    ensures { IfSome result (λ p. IsAsciiPiece first bytes.now p.0 p.1 p.2) }
+{
+    let byte = bytes.first()?;
+    if !byte.is_ascii_digit() {
+        return None;
+    }
+    let (next, after, line) = read_to(first, bytes, State::Start(first), true, bytes)?;
+    match next {
+        State::Zero => from_zero(first, bytes, line, after),
+        State::Digits(true) => from_digits(first, bytes, line, after),
+        _ => None,
+    }
+}
+
+/// The longest piece that begins a text, state by state, where it and what comes next are of
+/// ASCII: its shape, its length, and whether it is without a line feed. `None` where another way has
+/// to find it.
+pub fn ascii_piece(first: bool, bytes: &[u8]) -> Option<(Shape, usize, bool)>
     ensures { IfSome result (λ p. IsAsciiPiece first bytes.now p.0 p.1 p.2) }
 {
     let mut state = State::Start(first);
@@ -153,16 +549,5 @@ fn any_ascii_piece(first: bool, bytes: &[u8]) -> Option<(Shape, usize, bool)>
         state = next;
         in_line = in_line & is_in_line;
         rest = after;
-    }
-}
-
-/// The longest piece that begins a text, where it and what comes next are of ASCII: its shape, its
-/// length, and whether it is without a line feed. `None` where another way has to find it.
-pub fn ascii_piece(first: bool, bytes: &[u8]) -> Option<(Shape, usize, bool)>
-    ensures { IfSome result (λ p. IsAsciiPiece first bytes.now p.0 p.1 p.2) }
-{
-    match single_piece(bytes) {
-        Some(piece) => Some(piece),
-        None => any_ascii_piece(first, bytes),
     }
 }

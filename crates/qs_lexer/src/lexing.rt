@@ -1,13 +1,14 @@
-ghost use Rattle.std.specs.Prelude.{◌≡◌, ◌⊎◌, ◌≤◌, ℕ, [], length, MatchResult};
+ghost use Rattle.std.specs.Prelude.{◌≡◌, ◌⊎◌, ◌+◌, ◌<◌, ◌≤◌, ◌^◌, ℕ, [], length, MatchResult};
 ghost use Rattle.std.specs.Bool.{MatchBool};
 ghost use Rattle.std.specs.Str.{chars};
 ghost use Rattle.qs_lexer.specs.declared.refusal.LexRefusal.TheVariants.{Memory as OutOfMemory};
 ghost use Rattle.qs_lexer.specs.Lexed.{IsClear, IsPieceFault, IsReadable, LexIs, longest_source, most_tokens};
-ghost use Rattle.qs_lexer.specs.steps.Scan.{Adds, GivesKind, first_of};
+ghost use Rattle.qs_lexer.specs.steps.Runs.{IsInLine};
+ghost use Rattle.qs_lexer.specs.steps.Scan.{Adds, Begins, FailsNext, GivesKind, TakesNext, first_of};
 
 use crate::place::{START, place_behind_piece};
 use crate::refusal::LexRefusal;
-use crate::scan::next_piece;
+use crate::scan::{Piece, line_feed, next_piece, plain_word, single_sign, spacing};
 use crate::shape::Shape;
 use crate::token::{Token, TokenKind};
 use crate::value::kind_of;
@@ -34,6 +35,7 @@ fn readable(bytes: &[u8]) -> (&str, &[u8])
 }
 
 /// What a piece gives: nothing for a gap, the kind of a token for a lexeme, or its fault.
+#[inline(always)]
 fn kind_at(place: Span, shape: Shape, piece: &str) -> Result<Option<TokenKind>, LexRefusal>
     requires { length (chars piece.now) ≤ longest_source }
     ensures { MatchResult result (λ found. GivesKind shape (chars piece.now) found)
@@ -51,6 +53,7 @@ fn kind_at(place: Span, shape: Shape, piece: &str) -> Result<Option<TokenKind>, 
 }
 
 /// Puts the token of a piece, if it gives one, at the end of the list.
+#[inline(always)]
 fn put(
     alloc: Global,
     tokens: &mut List<Token>,
@@ -82,6 +85,7 @@ fn put(
 }
 
 /// Whether a piece runs up to a byte that belongs to no character.
+#[inline(always)]
 fn runs_out(after: &str, tail: &[u8]) -> bool
     ensures { MatchBool result ((chars after.now ≡ []) × ¬ (tail.now ≡ []))
         (IsClear (chars after.now) tail.now) }
@@ -90,12 +94,87 @@ fn runs_out(after: &str, tail: &[u8]) -> bool
 }
 
 /// Whether the next lexeme is the first of its line, after a piece that ends on a line below or not.
+#[inline(always)]
 fn first_of(first: bool, shape: Shape, is_below: bool) -> bool
     ensures { result ≡ first_of first shape is_below }
 {
     match shape {
         Shape::Gap => first || is_below,
         _ => false,
+    }
+}
+
+/// Puts the token of the piece that begins a text, if it gives one, at the end of the list: the place
+/// after the piece, whether the next lexeme is the first of its line, and what is left of the text.
+#[inline(always)]
+fn take<'a>(
+    alloc: Global,
+    tokens: &mut List<Token>,
+    place: Span,
+    first: bool,
+    text: &str,
+    tail: &[u8],
+    piece: Piece<'a>,
+) -> Result<(Span, bool, &'a str), LexRefusal>
+    requires line { place.line + length (chars text.now) < 2 ^ 32 }
+    requires col { place.col + length (chars text.now) < 2 ^ 32 }
+    requires short { length (chars text.now) ≤ longest_source }
+    requires few { length tokens.old ≤ most_tokens }
+    requires piece { Begins first text.now piece.shape piece.text.now piece.after.now }
+    requires in_line { IsInLine piece.in_line piece.text.now }
+    ensures { MatchResult result
+        (λ p. TakesNext first place text.now tokens.old tokens.new p.0 p.1 p.2.now)
+        (λ refusal. FailsNext first place text.now tail.now (length tokens.old) refusal) }
+{
+    let end = place_behind_piece(place, piece.text, piece.in_line);
+    if runs_out(piece.after, tail) {
+        return Err(LexRefusal::NotUtf8 { span: end });
+    }
+    match put(alloc, tokens, place, piece.shape, piece.text) {
+        Ok(()) => Ok((
+            end,
+            first_of(first, piece.shape, end.line > place.line),
+            piece.after,
+        )),
+        Err(refusal) => Err(refusal),
+    }
+}
+
+/// Takes the longest piece that begins a text. Blanks, single signs and plain words, which are most
+/// pieces, have code of their own.
+#[inline(always)]
+fn take_next<'a>(
+    alloc: Global,
+    tokens: &mut List<Token>,
+    place: Span,
+    first: bool,
+    text: &'a str,
+    tail: &[u8],
+) -> Result<(Span, bool, &'a str), LexRefusal>
+    requires line { place.line + length (chars text.now) < 2 ^ 32 }
+    requires col { place.col + length (chars text.now) < 2 ^ 32 }
+    requires short { length (chars text.now) ≤ longest_source }
+    requires few { length tokens.old ≤ most_tokens }
+    requires some { ¬ (text.now ≡ []) }
+    ensures { MatchResult result
+        (λ p. TakesNext first place text.now tokens.old tokens.new p.0 p.1 p.2.now)
+        (λ refusal. FailsNext first place text.now tail.now (length tokens.old) refusal) }
+{
+    if let Some(piece) = spacing(first, text) {
+        return take(alloc, tokens, place, first, text, tail, piece);
+    }
+    if let Some(piece) = single_sign(first, text) {
+        return take(alloc, tokens, place, first, text, tail, piece);
+    }
+    if let Some(piece) = plain_word(first, text) {
+        return take(alloc, tokens, place, first, text, tail, piece);
+    }
+    if let Some(piece) = line_feed(first, text) {
+        return take(alloc, tokens, place, first, text, tail, piece);
+    }
+    match next_piece(first, text) {
+        Some(piece) => take(alloc, tokens, place, first, text, tail, piece),
+        None => Err(LexRefusal::BadChar { span: place }),
     }
 }
 
@@ -116,19 +195,14 @@ pub fn lex(alloc: Global, bytes: &[u8]) -> Result<List<Token>, LexRefusal>
     let mut first = true;
     let mut rest = text;
     while !rest.is_empty() {
-        let Some(piece) = next_piece(first, rest) else {
-            return Err(LexRefusal::BadChar { span: place });
-        };
-        let end = place_behind_piece(place, piece.text, piece.in_line);
-        if runs_out(piece.after, tail) {
-            return Err(LexRefusal::NotUtf8 { span: end });
+        match take_next(alloc, &mut tokens, place, first, rest, tail) {
+            Ok((end, is_first, after)) => {
+                place = end;
+                first = is_first;
+                rest = after;
+            }
+            Err(refusal) => return Err(refusal),
         }
-        if let Err(refusal) = put(alloc, &mut tokens, place, piece.shape, piece.text) {
-            return Err(refusal);
-        }
-        first = first_of(first, piece.shape, end.line > place.line);
-        place = end;
-        rest = piece.after;
     }
     if tail.is_empty() {
         Ok(tokens)

@@ -42,6 +42,7 @@ fn place_behind_all(place: Span, text: &str) -> Span
 
 /// The place after a piece that begins at a place; one that is in its line is as many columns long
 /// as it has bytes.
+#[inline(always)]
 pub fn place_behind_piece(place: Span, text: &str, in_line: bool) -> Span
     requires line { place.line + length (chars text.now) < 2 ^ 32 }
     requires col { place.col + length (chars text.now) < 2 ^ 32 }

@@ -3,9 +3,9 @@ ghost use Rattle.std.specs.Str.{chars};
 ghost use Rattle.qs_lexer.specs.declared.state.State.TheVariants.{Start};
 ghost use Rattle.qs_lexer.specs.Cut.{BeginsNothing};
 ghost use Rattle.qs_lexer.specs.steps.Scan.{Begins, IsBehind, longest_from};
-ghost use Rattle.qs_lexer.specs.steps.Runs.{IsInLine};
+ghost use Rattle.qs_lexer.specs.steps.Runs.{IsAsciiPiece, IsInLine};
 
-use crate::ascii::ascii_piece;
+use crate::ascii::{self, ascii_piece, line_comment, number, physical};
 use crate::shape::Shape;
 use crate::state::{State, shape_before, step};
 
@@ -59,20 +59,80 @@ fn any_piece(first: bool, text: &str) -> Option<Piece<'_>>
     })
 }
 
+/// A piece of ASCII alone with which a text begins, cut off it.
+#[inline(always)]
+fn cut_off(first: bool, text: &str, found: (Shape, usize, bool)) -> Piece<'_>
+    requires { IsAsciiPiece first text.now found.0 found.1 found.2 }
+    ensures piece { Begins first text.now result.shape result.text.now result.after.now }
+    ensures in_line { IsInLine result.in_line result.text.now }
+{
+    let (piece, after) = text.split_at(found.1);
+    Piece {
+        shape: found.0,
+        text: piece,
+        after,
+        in_line: found.2,
+    }
+}
+
+/// The blank, but for a line feed, that begins a text.
+#[inline(always)]
+pub fn spacing(first: bool, text: &str) -> Option<Piece<'_>>
+    ensures piece { IfSome result (λ p. Begins first text.now p.shape p.text.now p.after.now) }
+    ensures in_line { IfSome result (λ p. IsInLine p.in_line p.text.now) }
+{
+    let found = ascii::spacing(text.as_bytes())?;
+    Some(cut_off(first, text, found))
+}
+
+/// The line feed that begins a text.
+#[inline(always)]
+pub fn line_feed(first: bool, text: &str) -> Option<Piece<'_>>
+    ensures piece { IfSome result (λ p. Begins first text.now p.shape p.text.now p.after.now) }
+    ensures in_line { IfSome result (λ p. IsInLine p.in_line p.text.now) }
+{
+    let found = ascii::line_feed(text.as_bytes())?;
+    Some(cut_off(first, text, found))
+}
+
+/// The sign with which no longer sign begins, that begins a text.
+#[inline(always)]
+pub fn single_sign(first: bool, text: &str) -> Option<Piece<'_>>
+    ensures piece { IfSome result (λ p. Begins first text.now p.shape p.text.now p.after.now) }
+    ensures in_line { IfSome result (λ p. IsInLine p.in_line p.text.now) }
+{
+    let found = ascii::single_sign(text.as_bytes())?;
+    Some(cut_off(first, text, found))
+}
+
+/// The word of ASCII that begins a text, and can't begin a pragma.
+#[inline(always)]
+pub fn plain_word(first: bool, text: &str) -> Option<Piece<'_>>
+    ensures piece { IfSome result (λ p. Begins first text.now p.shape p.text.now p.after.now) }
+    ensures in_line { IfSome result (λ p. IsInLine p.in_line p.text.now) }
+{
+    let found = ascii::plain_word(first, text.as_bytes())?;
+    Some(cut_off(first, text, found))
+}
+
 /// The longest piece that begins a text.
+#[inline(always)]
 pub fn next_piece(first: bool, text: &str) -> Option<Piece<'_>>
     ensures piece { MatchOption result (BeginsNothing first (chars text.now))
         (λ p. Begins first text.now p.shape p.text.now p.after.now) }
     ensures in_line { IfSome result (λ p. IsInLine p.in_line p.text.now) }
 {
-    let Some((shape, count, in_line)) = ascii_piece(first, text.as_bytes()) else {
-        return any_piece(first, text);
-    };
-    let (piece, after) = text.split_at(count);
-    Some(Piece {
-        shape,
-        text: piece,
-        after,
-        in_line,
-    })
+    if let Some(found) = physical(first, text.as_bytes()) {
+        return Some(cut_off(first, text, found));
+    }
+    if let Some(found) = line_comment(first, text.as_bytes()) {
+        return Some(cut_off(first, text, found));
+    }
+    if let Some(found) = number(first, text.as_bytes()) {
+        return Some(cut_off(first, text, found));
+    }
+    match ascii_piece(first, text.as_bytes()) {
+        Some(found) => Some(cut_off(first, text, found)),
+        None => any_piece(first, text),
+    }
 }

@@ -1,12 +1,12 @@
 -- Runs of ASCII with which the reader's state stays as it is, and a piece of ASCII alone. This project's own.
-use Rattle.std.specs.Prelude.{◌≡◌, ◌≢◌, ◌⊎◌, ℕ, ◌-◌, ◌<◌, List, [], ◌∷◌, ◌++◌, Bool, true, ◌||◌, not, nat_eq, length, Some, IsTrue, slice_get}
+use Rattle.std.specs.Prelude.{◌≡◌, ◌≢◌, ◌⊎◌, ℕ, ◌-◌, ◌<◌, List, [], ◌∷◌, ◌++◌, Bool, true, ◌||◌, not, nat_eq, nat_lt, length, Some, IsTrue, slice_get}
 use Rattle.std.specs.List.{list_all}
 use Rattle.std.specs.Str.{IsAscii, chars}
 use Rattle.qs_lexer.specs.declared.shape.Shape.{Shape}
 use Rattle.qs_lexer.specs.declared.state.State.{State}
-use Rattle.qs_lexer.specs.declared.state.State.TheVariants.{Nothing, Start}
+use Rattle.qs_lexer.specs.declared.state.State.TheVariants.{Nothing, Start, Word}
 use Rattle.qs_lexer.specs.Forms.{is_in_line}
-use Rattle.qs_lexer.specs.steps.Scan.{longest_from, shape_before, step}
+use Rattle.qs_lexer.specs.steps.Scan.{longest_from, run, shape_before, step}
 
 -- `( ) [ ] { } : ; , ~`, the signs with which no longer sign begins
 abbrev pub is_single_sign : ℕ → Bool
@@ -18,6 +18,11 @@ pub record StaysWith (state : State) (byte : ℕ) : Type 0 where
   pub ascii : byte < 128
   pub in_line : byte ≢ 10
   pub stays : step state byte ≡ state
+
+-- With this byte, which is of ASCII, a word begins that can't be a pragma.
+pub record BeginsOnlyWord (first : Bool) (byte : ℕ) : Type 0 where
+  pub ascii : byte < 128
+  pub begins : step (Start first) byte ≡ Word
 
 -- With each of these bytes a piece stays in a state.
 abbrev pub AllStay : State → List ℕ → Type 0
@@ -43,6 +48,23 @@ pub record ReadsOn (state : State) (bytes : List ℕ) (next : State) (rest : Lis
   pub run_end : List ℕ
   pub past : IsPast state bytes run_end
   pub then : ((next ≡ Nothing) × (rest ≡ run_end) × Stops state run_end) ⊎ GoesOn state run_end next rest in_line
+
+-- whether a byte is of ASCII
+abbrev pub is_ascii_byte : ℕ → Bool
+is_ascii_byte b = nat_lt b 128
+
+-- So far these bytes are read, all of them of ASCII, and this is the state.
+pub record IsRead (first : Bool) (bytes : List ℕ) (state : State) (in_line : Bool) (rest : List ℕ) : Type 0 where
+  pub front : List ℕ
+  pub whole : bytes ≡ front ++ rest
+  pub ascii : list_all is_ascii_byte front ≡ true
+  pub at : run (Start first) front ≡ state
+  pub line : in_line ≡ true → list_all is_in_line front ≡ true
+
+-- A piece that was read on from a state is in the next one; or nothing goes on with it, and this is where it stops.
+abbrev pub ReadsTo : Bool → List ℕ → State → Bool → State → List ℕ → Bool → Type 0
+ReadsTo first bytes state in_line next rest next_in_line =
+    ((next ≡ Nothing) × IsRead first bytes state in_line rest × Stops state rest) ⊎ (¬ (next ≡ Nothing) × IsRead first bytes next next_in_line rest)
 
 -- A piece in this state may end before `rest`, with this shape, after so many bytes.
 abbrev pub MayEnd : State → List ℕ → List ℕ → Shape → ℕ → Type 0

@@ -1,5 +1,5 @@
 -- What a piece is after some of its characters, and the longest piece that begins here: the reader's own account of its state, of which the definitions know nothing. This project's own.
-use Rattle.std.specs.Prelude.{◌≡◌, ℕ, ◌+◌, ◌<◌, ◌≤◌, List, [], ◌∷◌, ◌++◌, length, Bool, true, false, ◌&&◌, ◌||◌, not, if◌then◌else◌, nat_eq, nat_lt, Option, Some, None, is_some, codes, get_or, slice_get}
+use Rattle.std.specs.Prelude.{◌≡◌, ◌⊎◌, ℕ, ◌+◌, ◌<◌, ◌≤◌, List, [], ◌∷◌, ◌++◌, length, Bool, true, false, ◌&&◌, ◌||◌, not, if◌then◌else◌, nat_eq, nat_lt, Option, Some, None, is_some, codes, get_or, slice_get}
 use Rattle.std.specs.Char.{is_ascii_digit, is_ascii_hexdigit}
 use Rattle.std.specs.List.{fold}
 use Rattle.std.specs.Str.{IsUtf8, chars}
@@ -17,8 +17,10 @@ use Rattle.qs_lexer.specs.declared.token.Unit.{Unit as TimeUnit}
 use Rattle.qs_lexer.specs.declared.token.Unit.TheVariants.{Dt, Ns, Us, Ms, S}
 use Rattle.qs_lexer.specs.Forms.{is_blank, is_binary_digit, is_octal_digit}
 use Rattle.qs_lexer.specs.Values.{IsLexeme, KindIs}
-use Rattle.qs_lexer.specs.Cut.{AreTokens, IsLongest}
-use Rattle.qs_lexer.specs.Lexed.{most_tokens}
+use Rattle.qs_lexer.specs.declared.refusal.LexRefusal.{LexRefusal}
+use Rattle.qs_lexer.specs.declared.refusal.LexRefusal.TheVariants.{Memory}
+use Rattle.qs_lexer.specs.Cut.{AreTokens, IsLongest, place_behind_all}
+use Rattle.qs_lexer.specs.Lexed.{IsFaultAt, most_tokens}
 
 -- a letter of `pragma` by its place
 abbrev pub letter_of_pragma : ℕ → ℕ
@@ -255,3 +257,16 @@ pub record Adds (place : Span) (form : Shape) (t : List ℕ) (before after : Lis
   pub added : after ≡ before ++ tokens
   pub are : AreTokens place ((form, t) ∷ []) tokens
   pub few : length after ≤ most_tokens
+
+-- The longest piece that begins a text is taken: its token is added to others, if it gives one. `end` is the place after it, and `left` what is left of the text.
+pub record TakesNext (first : Bool) (place : Span) (text : List ℕ) (before after : List Token) (end : Span) (next_first : Bool) (left : List ℕ) : Type 0 where
+  pub form : Shape
+  pub piece : List ℕ
+  pub begins : Begins first text form piece left
+  pub ends : end ≡ place_behind_all place (chars piece)
+  pub adds : Adds place form (chars piece) before after
+  pub next : next_first ≡ first_of first form (nat_lt place.line end.line)
+
+-- What begins a text is a fault, after so many tokens; or memory is out.
+abbrev pub FailsNext : Bool → Span → List ℕ → List ℕ → ℕ → LexRefusal → Type 0
+FailsNext first place text tail count refusal = (refusal ≡ Memory) ⊎ IsFaultAt first (chars text) tail count place refusal

@@ -14,8 +14,8 @@ returns-then-has_minus c =
     let m = value_of 10 (mantissa text) in
     let p = places (mantissa text) in
     let front = c.read_mantissa-value.ensures in
-    let minus : true ≡ has_minus text = sym c.if-has_minus.true ∙ c.has_minus.ensures ∙ ap (λ t. begins (nat_eq 45) (drop 1 t)) front.rest in
-    let size : c.exponent-exponent.result ≡ min (exponent text) 2_000_000 = c.exponent-exponent.ensures ∙ ap (λ t. min (value_of 10 t) 2_000_000) front.rest in
+    let minus : true ≡ has_minus text = sym c.if-has_minus.true ∙ c.has_minus.ensures ∙ ap (λ t. begins (nat_eq 45) (drop 1 t)) front.behind in
+    let size : c.exponent-exponent.result ≡ min (exponent text) 2_000_000 = c.exponent-exponent.ensures ∙ ap (λ t. min (value_of 10 t) 2_000_000) front.behind in
     let down : c.read_mantissa-value.result.1 + c.exponent-exponent.result ≡ p + min (exponent text) 2_000_000 = omega (arith, front.places, size) in
     let far : length (digits_of (mantissa text)) + 17 ≤ 2_000_000 = omega (arith, few_digits text, c.requires) in
     c.shifted.ensures
@@ -28,8 +28,8 @@ returns-else-has_minus c =
     let m = value_of 10 (mantissa text) in
     let p = places (mantissa text) in
     let front = c.read_mantissa-value.ensures in
-    let minus : false ≡ has_minus text = sym c.if-has_minus.false ∙ c.has_minus.ensures ∙ ap (λ t. begins (nat_eq 45) (drop 1 t)) front.rest in
-    let size : c.exponent-exponent.result ≡ min (exponent text) 2_000_000 = c.exponent-exponent.ensures ∙ ap (λ t. min (value_of 10 t) 2_000_000) front.rest in
+    let minus : false ≡ has_minus text = sym c.if-has_minus.false ∙ c.has_minus.ensures ∙ ap (λ t. begins (nat_eq 45) (drop 1 t)) front.behind in
+    let size : c.exponent-exponent.result ≡ min (exponent text) 2_000_000 = c.exponent-exponent.ensures ∙ ap (λ t. min (value_of 10 t) 2_000_000) front.behind in
     let far : p + 36 ≤ 2_000_000 = omega (arith, few_places text, c.requires) in
     c.shifted-else-has_minus.ensures
     ∙ ap (λ k. min (m * 10 ^ (17 + k) / 10 ^ c.read_mantissa-value.result.1) (10 ^ 36)) size

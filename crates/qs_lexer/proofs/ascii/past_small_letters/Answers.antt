@@ -1,0 +1,8 @@
+use Rattle.qs_lexer.specs.declared.state.State.TheVariants.{Word}
+use Rattle.qs_lexer.proofs.AsciiRuns.{past_one}
+use Rattle.qs_lexer.proofs.ascii.past_small_letters.Goals as goal
+
+pub loop-byte-preserved : goal.loop-byte-preserved
+loop-byte-preserved c = λ rest past.
+    c.loop-byte.invariant rest
+    (past_one Word c.in-Some.byte.now c.loop-byte.rest.now c.in-Some.after.now rest c.in-Some.ensures.cases.0 c.if-not-is_small_letter.ensures past)
