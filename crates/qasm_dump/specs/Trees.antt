@@ -186,9 +186,9 @@ item_step (layer.Frame span n e) = parts (place span ∷ chars (codes "frame ") 
 item_step (layer.Return span e) = parts (place span ∷ chars (codes "return ") ∷ e ∷ chars (codes ";") ∷ [])
 item_step (layer.Statement s) = s
 
--- a body, and what a `for` goes through
+-- a body: one statement without braces between angle brackets, which show where it ends; and what a `for` goes through
 abbrev pub body_step : Layer Body-F → Writer
-body_step (layer.One s) = s
+body_step (layer.One s) = parts (chars (codes "<") ∷ s ∷ chars (codes ">") ∷ [])
 body_step (layer.Braces ss) = in_braces ss
 
 abbrev pub range_step : Layer Range-F → Writer

@@ -238,13 +238,17 @@ fn put_item(out: &mut Vec<u8>, part: &Item) -> Result<(), AllocError>
     }
 }
 
-/// A body.
+/// A body: one statement without braces stands between angle brackets.
 #[cycle(writing)]
 fn put_body(out: &mut Vec<u8>, part: &Body) -> Result<(), AllocError>
     ensures { OnOk result (out.new.items ≡ write_body part.now out.old.items) }
 {
     match part {
-        Body::One(stmt) => put_stmt(out, stmt.get()),
+        Body::One(stmt) => {
+            put(out, b"<")?;
+            put_stmt(out, stmt.get())?;
+            put(out, b">")
+        }
         Body::Braces(stmts) => put_block(out, stmts.as_slice()),
     }
 }
