@@ -9,7 +9,8 @@ use Rattle.std.proofs.lemmas.Str.{chars-nil, chars-append, chars-IsAscii, IsUtf8
 use Rattle.qs_lexer.specs.declared.shape.Shape.{Shape}
 use Rattle.qs_lexer.specs.declared.shape.Shape.TheVariants.{Word as WordShape}
 use Rattle.qs_lexer.specs.declared.state.State.{State}
-use Rattle.qs_lexer.specs.declared.state.State.TheVariants.{Dollar, Line, Nothing, Physical, Slash, Start, Word}
+use Rattle.qs_lexer.specs.declared.state.Base.TheVariants.{Hexadecimal}
+use Rattle.qs_lexer.specs.declared.state.State.TheVariants.{Based, Dollar, Line, Nothing, Physical, Slash, Start, Word}
 use Rattle.qs_lexer.specs.Forms.{is_in_line}
 use Rattle.qs_lexer.specs.steps.Runs.{AllStay, BeginsOnlyWord, IsAsciiPiece, IsPast, IsRead, MayEnd, ReadsOn, ReadsTo, Stops, StaysWith, is_ascii_byte}
 use Rattle.qs_lexer.specs.steps.Scan.{Found, found_at, later, longest_from, run, shape_before, step}
@@ -195,6 +196,16 @@ reads_more first bytes s onto in_line line rest after read reads on =
         omega (arith, ap length goes.1, no_longer rest s reads.run_end reads.past),
       )
     ]
+
+based_not_nothing : (s : State) (ended : Bool) → s ≡ Based Hexadecimal ended → ¬ (s ≡ Nothing)
+based_not_nothing s ended is e = absurd (let bad : Based Hexadecimal ended ≡ Nothing = sym is ∙ e in cc)
+
+-- hexadecimal digits, or `_` between them
+pub based_reads : (first : Bool) (bytes : List ℕ) (ended onto_ended : Bool) (onto : State) (in_line line : Bool) (rest after : List ℕ) → IsRead first bytes (Based Hexadecimal ended) in_line rest → ReadsOn (Based Hexadecimal ended) rest onto after line → onto ≡ Based Hexadecimal onto_ended
+    → IsRead first bytes (Based Hexadecimal onto_ended) (in_line && line) after
+based_reads first bytes ended onto_ended onto in_line line rest after read reads is =
+    subst (λ s. IsRead first bytes s (in_line && line) after) is
+    (reads_more first bytes (Based Hexadecimal ended) onto in_line line rest after read reads (based_not_nothing onto onto_ended is)).0
 
 -- nothing goes on with a piece
 pub reads_end : (first : Bool) (bytes : List ℕ) (s onto : State) (in_line line : Bool) (rest after : List ℕ) → IsRead first bytes s in_line rest → ReadsOn s rest onto after line → onto ≡ Nothing

@@ -34,3 +34,5 @@ pub mod EndOnce
 pub mod CutOnce
 pub mod Powers
 pub mod ShortMantissas
+pub mod Decimals
+pub mod ShortHexadecimals

@@ -1,12 +1,11 @@
 ghost use Rattle.std.specs.Prelude.{◌≡◌, ◌≤◌, Bool, true, IfSome, IsTrue, length, slice_get};
 ghost use Rattle.std.specs.Bool.{OnTrue};
-ghost use Rattle.qs_lexer.specs.declared.state.State.TheVariants.{Digits, Ended, Exponent, Half, Letter, Line as LineState, Part, Pointed, Signed, Word as WordState, Zero};
+ghost use Rattle.qs_lexer.specs.declared.state.State.TheVariants.{Line as LineState, Word as WordState};
 ghost use Rattle.qs_lexer.specs.Forms.{is_blank};
-ghost use Rattle.qs_lexer.specs.steps.Runs.{BeginsOnlyWord, IsPast, IsRead, ReadsTo, IsAsciiPiece, MayEnd, ReadsOn, StaysWith, is_single_sign};
+ghost use Rattle.qs_lexer.specs.steps.Runs.{BeginsOnlyWord, IsPast, IsRead, IsAsciiPiece, MayEnd, ReadsOn, StaysWith, is_single_sign};
 
 use crate::shape::Shape;
 use crate::state::{Base, State, shape_before, step};
-use crate::token::Unit;
 
 /// Whether a piece stays in a state with a byte that is of ASCII and no line feed. It may do so
 /// with others too, which are read one by one.
@@ -142,7 +141,7 @@ fn first_char(bytes: &[u8]) -> Option<char>
 /// whether it is no line feed. Where none goes on, `Nothing` and the bytes after the run. `None`
 /// before a character that isn't of ASCII.
 #[inline(always)]
-fn read_on(state: State, bytes: &[u8]) -> Option<(State, &[u8], bool)>
+pub fn read_on(state: State, bytes: &[u8]) -> Option<(State, &[u8], bool)>
     ensures { IfSome result (λ p. ReadsOn state bytes.now p.0 p.1.now p.2) }
 {
     let rest = past(state, bytes);
@@ -192,7 +191,7 @@ fn read_state(state: State, bytes: &[u8]) -> Option<(State, &[u8], bool)>
 }
 
 /// The piece of these bytes before `rest`, where one may end there.
-fn piece_before(
+pub fn piece_before(
     state: State,
     bytes: &[u8],
     rest: &[u8],
@@ -334,202 +333,6 @@ pub fn physical(first: bool, bytes: &[u8]) -> Option<(Shape, usize, bool)>
         return None;
     }
     run_to_end(first, bytes, State::Physical, rest)
-}
-
-/// A piece of which so much is read that it is in a state, read on: the next state, the bytes after
-/// it, and whether no line feed was read. `Nothing` where nothing goes on with it.
-#[inline(always)]
-fn read_to<'a>(
-    first: bool,
-    bytes: &[u8],
-    state: State,
-    in_line: bool,
-    rest: &'a [u8],
-) -> Option<(State, &'a [u8], bool)>
-    requires { IsRead first bytes.now state in_line rest.now }
-    ensures { IfSome result (λ p. ReadsTo first bytes.now state in_line p.0 p.1.now p.2) }
-{
-    let (next, after, is_in_line) = read_on(state, rest)?;
-    Some((next, after, in_line & is_in_line))
-}
-
-/// A number, as often met, of which the digits of its exponent was read.
-#[inline(always)]
-fn from_exponent(
-    first: bool,
-    bytes: &[u8],
-    in_line: bool,
-    rest: &[u8],
-) -> Option<(Shape, usize, bool)>
-    requires { IsRead first bytes.now (Exponent true) in_line rest.now }
-    ensures { IfSome result (λ p. IsAsciiPiece first bytes.now p.0 p.1 p.2) }
-{
-    let (next, after, line) = read_to(first, bytes, State::Exponent(true), in_line, rest)?;
-    match next {
-        State::Nothing => piece_before(State::Exponent(true), bytes, after, in_line),
-        _ => None,
-    }
-}
-
-/// A number, as often met, of which the sign of its exponent was read.
-#[inline(always)]
-fn from_signed(
-    first: bool,
-    bytes: &[u8],
-    in_line: bool,
-    rest: &[u8],
-) -> Option<(Shape, usize, bool)>
-    requires { IsRead first bytes.now (Signed) in_line rest.now }
-    ensures { IfSome result (λ p. IsAsciiPiece first bytes.now p.0 p.1 p.2) }
-{
-    let (next, after, line) = read_to(first, bytes, State::Signed, in_line, rest)?;
-    match next {
-        State::Exponent(true) => from_exponent(first, bytes, line, after),
-        _ => None,
-    }
-}
-
-/// A number, as often met, of which the letter of its exponent was read.
-#[inline(always)]
-fn from_letter(
-    first: bool,
-    bytes: &[u8],
-    in_line: bool,
-    rest: &[u8],
-) -> Option<(Shape, usize, bool)>
-    requires { IsRead first bytes.now (Letter) in_line rest.now }
-    ensures { IfSome result (λ p. IsAsciiPiece first bytes.now p.0 p.1 p.2) }
-{
-    let (next, after, line) = read_to(first, bytes, State::Letter, in_line, rest)?;
-    match next {
-        State::Signed => from_signed(first, bytes, line, after),
-        State::Exponent(true) => from_exponent(first, bytes, line, after),
-        _ => None,
-    }
-}
-
-/// A number, as often met, of which its unit was read.
-#[inline(always)]
-fn from_unit(
-    first: bool,
-    bytes: &[u8],
-    unit: Unit,
-    in_line: bool,
-    rest: &[u8],
-) -> Option<(Shape, usize, bool)>
-    requires { IsRead first bytes.now (Ended unit) in_line rest.now }
-    ensures { IfSome result (λ p. IsAsciiPiece first bytes.now p.0 p.1 p.2) }
-{
-    let (next, after, line) = read_to(first, bytes, State::Ended(unit), in_line, rest)?;
-    match next {
-        State::Nothing => piece_before(State::Ended(unit), bytes, after, in_line),
-        _ => None,
-    }
-}
-
-/// A number, as often met, of which the first letter of its unit was read.
-#[inline(always)]
-fn from_half(
-    first: bool,
-    bytes: &[u8],
-    unit: Unit,
-    in_line: bool,
-    rest: &[u8],
-) -> Option<(Shape, usize, bool)>
-    requires { IsRead first bytes.now (Half unit) in_line rest.now }
-    ensures { IfSome result (λ p. IsAsciiPiece first bytes.now p.0 p.1 p.2) }
-{
-    let (next, after, line) = read_to(first, bytes, State::Half(unit), in_line, rest)?;
-    match next {
-        State::Ended(whole) => from_unit(first, bytes, whole, line, after),
-        _ => None,
-    }
-}
-
-/// A number, as often met, of which digits after its point was read.
-#[inline(always)]
-fn from_part(first: bool, bytes: &[u8], in_line: bool, rest: &[u8]) -> Option<(Shape, usize, bool)>
-    requires { IsRead first bytes.now (Part true) in_line rest.now }
-    ensures { IfSome result (λ p. IsAsciiPiece first bytes.now p.0 p.1 p.2) }
-{
-    let (next, after, line) = read_to(first, bytes, State::Part(true), in_line, rest)?;
-    match next {
-        State::Nothing => piece_before(State::Part(true), bytes, after, in_line),
-        State::Letter => from_letter(first, bytes, line, after),
-        State::Half(unit) => from_half(first, bytes, unit, line, after),
-        _ => None,
-    }
-}
-
-/// A number, as often met, of which digits and its point was read.
-#[inline(always)]
-fn from_pointed(
-    first: bool,
-    bytes: &[u8],
-    in_line: bool,
-    rest: &[u8],
-) -> Option<(Shape, usize, bool)>
-    requires { IsRead first bytes.now (Pointed) in_line rest.now }
-    ensures { IfSome result (λ p. IsAsciiPiece first bytes.now p.0 p.1 p.2) }
-{
-    let (next, after, line) = read_to(first, bytes, State::Pointed, in_line, rest)?;
-    match next {
-        State::Nothing => piece_before(State::Pointed, bytes, after, in_line),
-        State::Part(true) => from_part(first, bytes, line, after),
-        _ => None,
-    }
-}
-
-/// A number, as often met, of which a `0` was read.
-#[inline(always)]
-fn from_zero(first: bool, bytes: &[u8], in_line: bool, rest: &[u8]) -> Option<(Shape, usize, bool)>
-    requires { IsRead first bytes.now (Zero) in_line rest.now }
-    ensures { IfSome result (λ p. IsAsciiPiece first bytes.now p.0 p.1 p.2) }
-{
-    let (next, after, line) = read_to(first, bytes, State::Zero, in_line, rest)?;
-    match next {
-        State::Nothing => piece_before(State::Zero, bytes, after, in_line),
-        State::Pointed => from_pointed(first, bytes, line, after),
-        _ => None,
-    }
-}
-
-/// A number, as often met, of which digits was read.
-#[inline(always)]
-fn from_digits(
-    first: bool,
-    bytes: &[u8],
-    in_line: bool,
-    rest: &[u8],
-) -> Option<(Shape, usize, bool)>
-    requires { IsRead first bytes.now (Digits true) in_line rest.now }
-    ensures { IfSome result (λ p. IsAsciiPiece first bytes.now p.0 p.1 p.2) }
-{
-    let (next, after, line) = read_to(first, bytes, State::Digits(true), in_line, rest)?;
-    match next {
-        State::Nothing => piece_before(State::Digits(true), bytes, after, in_line),
-        State::Pointed => from_pointed(first, bytes, line, after),
-        State::Half(unit) => from_half(first, bytes, unit, line, after),
-        _ => None,
-    }
-}
-
-/// A decimal number, a whole one or with a point, an exponent or a unit, in the forms that are met
-/// often, where what comes next is of ASCII.
-#[inline(always)]
-pub fn number(first: bool, bytes: &[u8]) -> Option<(Shape, usize, bool)>
-    ensures { IfSome result (λ p. IsAsciiPiece first bytes.now p.0 p.1 p.2) }
-{
-    let byte = bytes.first()?;
-    if !byte.is_ascii_digit() {
-        return None;
-    }
-    let (next, after, line) = read_to(first, bytes, State::Start(first), true, bytes)?;
-    match next {
-        State::Zero => from_zero(first, bytes, line, after),
-        State::Digits(true) => from_digits(first, bytes, line, after),
-        _ => None,
-    }
 }
 
 /// The longest piece that begins a text, state by state, where it and what comes next are of

@@ -3,8 +3,11 @@
 #![tactic(auto)]
 
 mod ascii;
+mod digits;
 mod laws;
 mod lexing;
+mod mantissa;
+mod numbers;
 mod place;
 mod refusal;
 mod scan;

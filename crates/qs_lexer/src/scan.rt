@@ -5,7 +5,8 @@ ghost use Rattle.qs_lexer.specs.Cut.{BeginsNothing};
 ghost use Rattle.qs_lexer.specs.steps.Scan.{Begins, IsBehind, longest_from};
 ghost use Rattle.qs_lexer.specs.steps.Runs.{IsAsciiPiece, IsInLine};
 
-use crate::ascii::{self, ascii_piece, line_comment, number, physical};
+use crate::ascii::{self, ascii_piece, line_comment, physical};
+use crate::numbers::number;
 use crate::shape::Shape;
 use crate::state::{State, shape_before, step};
 

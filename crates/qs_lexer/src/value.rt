@@ -1,31 +1,24 @@
-ghost use Rattle.std.specs.Prelude.{◌≡◌, ◌+◌, ◌-◌, ◌<◌, ◌≤◌, ◌*◌, ◌/◌, ◌^◌, pos, drop, length, min, count_by, nat_eq, IfSome, MatchOption};
-ghost use Rattle.std.specs.Bool.{OnTrue};
+ghost use Rattle.std.specs.Prelude.{◌≡◌, ◌-◌, ◌<◌, ◌≤◌, ◌*◌, ◌/◌, ◌^◌, pos, drop, length, min, count_by, nat_eq, IfSome, MatchOption};
 ghost use Rattle.std.specs.Str.{chars};
 ghost use Rattle.qs_values.specs.Lowest.{IsWide};
-ghost use Rattle.std.specs.Char.{is_ascii_digit, is_digit};
+ghost use Rattle.qs_values.specs.Number.{IsFrac};
+ghost use Rattle.std.specs.Char.{is_digit};
 ghost use Rattle.qs_lexer.specs.Lexed.{longest_source};
-ghost use Rattle.qs_lexer.specs.Values.{IsCutOf, IsLexeme, IsTooWide, KindIs, with_digit, value_of, based_value, whole_value, is_mantissa, mantissa, behind_mantissa, places, scaled};
+ghost use Rattle.qs_lexer.specs.Values.{IsCutOf, IsLexeme, IsTooWide, KindIs, value_of, mantissa, scaled};
 ghost use Rattle.qs_lexer.specs.Forms.{begins};
-ghost use Rattle.qs_lexer.specs.steps.Mantissas.{EndsMantissa, GoesOn, IsMantissa, ReadsPart, ReadsSide, places_with};
+ghost use Rattle.qs_lexer.specs.steps.Mantissas.{HasDecimals, IsMantissa};
 
+use crate::digits::{WHOLE_BOUND, decimal_value, decimal_word, whole_value, with_digit};
+use crate::mantissa::{CAP, is_mantissa, read_mantissa};
 use crate::shape::Shape;
 use crate::token::TokenKind;
 use qs_values::Frac;
 
-/// What a number times 10^17 stays below, where it may be within its limit.
-const CAP: u128 = 1_000_000_000_000_000_000_000_000_000_000_000_000;
-
 /// What an exponent is cut to, which is more than a source has characters.
-const EXPONENT_CAP: u128 = 2_000_000;
+const EXPONENT_CAP: u64 = 2_000_000;
 
-/// 2^64, which a whole number stays below.
-const WHOLE_BOUND: u128 = 18_446_744_073_709_551_616;
-
-/// The greatest number of one machine word.
-const MOST_WORD: u64 = 18_446_744_073_709_551_615;
-
-/// 2^56, below which a number with one more digit is below `MOST_WORD`.
-const SHORT: u64 = 72_057_594_037_927_936;
+/// 2^31, which a number is below that is built as a fraction without a division.
+const WHOLE_LIMIT: u128 = 2_147_483_648;
 
 /// The powers of 10 that are numbers of one machine word.
 const POWERS: [u64; 20] = [
@@ -54,141 +47,6 @@ const POWERS: [u64; 20] = [
 /// 10^17, of which a cut number is a whole multiple of a part.
 const SCALE: i128 = 100_000_000_000_000_000;
 
-/// A number below `SHORT` with one more digit.
-#[inline(always)]
-fn and_digit(base: u32, n: u64, digit: u32) -> u64
-    requires base { base ≤ 36 }
-    requires n { n < 2 ^ 56 }
-    ensures { result ≡ n * base + digit }
-{
-    n * base as u64 + digit as u64
-}
-
-/// A number of one machine word with one more digit, cut to the greatest of them; other characters
-/// add none.
-#[inline(always)]
-fn word_with_digit(base: u32, n: u64, c: char) -> u64
-    requires least { 2 ≤ base }
-    requires most { base ≤ 36 }
-    ensures { result ≡ min (with_digit base n c) MOST_WORD }
-{
-    match c.to_digit(base) {
-        Some(digit) if n < SHORT => and_digit(base, n, digit).min(MOST_WORD),
-        Some(digit) => n.saturating_mul(base as u64).saturating_add(digit as u64),
-        None => n,
-    }
-}
-
-/// A number with one more digit, cut to `most`; other characters add none.
-#[inline(always)]
-fn with_digit(most: u128, base: u32, n: u128, c: char) -> u128
-    requires least { 2 ≤ base }
-    requires most { base ≤ 36 }
-    ensures { result ≡ min (with_digit base n c) most }
-{
-    match c.to_digit(base) {
-        Some(digit) => n
-            .saturating_mul(base as u128)
-            .saturating_add(digit as u128)
-            .min(most),
-        None => n.min(most),
-    }
-}
-
-/// The digits of a text as a number of a base, cut to the greatest number of one machine word.
-#[inline(always)]
-fn word_value(base: u32, text: &str) -> u64
-    requires least { 2 ≤ base }
-    requires most { base ≤ 36 }
-    ensures { result ≡ min (value_of base (chars text.now)) MOST_WORD }
-{
-    text.chars().fold(0, |n, c| word_with_digit(base, n, c))
-}
-
-/// The digits of a text as a number of a base, cut to `WHOLE_BOUND`.
-fn long_value(base: u32, text: &str) -> u128
-    requires least { 2 ≤ base }
-    requires most { base ≤ 36 }
-    ensures { result ≡ min (value_of base (chars text.now)) WHOLE_BOUND }
-{
-    text.chars()
-        .fold(0, |n, c| with_digit(WHOLE_BOUND, base, n, c))
-}
-
-/// The decimal digits of a text as a number, cut to the greatest number of one machine word.
-#[inline(always)]
-fn decimal_word(text: &str) -> u64
-    ensures { result ≡ min (value_of 10 (chars text.now)) MOST_WORD }
-{
-    text.chars().fold(0, |n, c| word_with_digit(10, n, c))
-}
-
-/// The hexadecimal digits of a text as a number, cut to the greatest number of one machine word.
-#[inline(always)]
-fn hexadecimal_word(text: &str) -> u64
-    ensures { result ≡ min (value_of 16 (chars text.now)) MOST_WORD }
-{
-    text.chars().fold(0, |n, c| word_with_digit(16, n, c))
-}
-
-/// The digits of a text as a number of a base, cut to `WHOLE_BOUND`, where they are known as a
-/// number that is cut to the greatest one of one machine word.
-#[inline(always)]
-fn value_of(base: u32, text: &str, value: u64) -> u128
-    requires least { 2 ≤ base }
-    requires most { base ≤ 36 }
-    requires value { value ≡ min (value_of base (chars text.now)) MOST_WORD }
-    ensures { result ≡ min (value_of base (chars text.now)) WHOLE_BOUND }
-{
-    if value < MOST_WORD {
-        value as u128
-    } else {
-        long_value(base, text)
-    }
-}
-
-/// The digits of a text as a decimal number, cut to `WHOLE_BOUND`.
-fn decimal_value(text: &str) -> u128
-    ensures { result ≡ min (value_of 10 (chars text.now)) WHOLE_BOUND }
-{
-    value_of(10, text, decimal_word(text))
-}
-
-/// The value of a whole number with this second character and these digits after it, cut to
-/// `WHOLE_BOUND`.
-fn based_value(text: &str, letter: char, digits: &str) -> u128
-    ensures { result
-        ≡ min (based_value (chars text.now) letter (chars digits.now)) WHOLE_BOUND }
-{
-    match letter {
-        'x' | 'X' => value_of(16, digits, hexadecimal_word(digits)),
-        'b' | 'B' => value_of(2, digits, word_value(2, digits)),
-        'o' => value_of(8, digits, word_value(8, digits)),
-        _ => decimal_value(text),
-    }
-}
-
-/// The value of a whole number, cut to `WHOLE_BOUND`.
-fn whole_value(text: &str) -> u128
-    ensures { result ≡ min (whole_value (chars text.now)) WHOLE_BOUND }
-{
-    let mut ahead = text.chars();
-    let Some(_) = ahead.next() else {
-        return 0;
-    };
-    let Some(letter) = ahead.next() else {
-        return decimal_value(text);
-    };
-    based_value(text, letter, ahead.as_str())
-}
-
-/// Whether a character stands before a number's exponent and unit.
-fn is_mantissa(c: char) -> bool
-    ensures { result ≡ is_mantissa c }
-{
-    c.is_ascii_digit() || c == '_' || c == '.'
-}
-
 /// How many digits a mantissa has.
 fn digits(text: &str) -> usize
     ensures { result ≡ count_by (λ c. is_digit c 10) (mantissa (chars text.now)) }
@@ -199,147 +57,12 @@ fn digits(text: &str) -> usize
         .count()
 }
 
-/// How many digits stand after the point, with one more character of a mantissa.
-#[inline(always)]
-fn places_with(pointed: bool, places: usize, c: char) -> usize
-    requires { places + 1 < 2 ^ 64 }
-    ensures { result ≡ places_with pointed places c }
-{
-    if pointed && c.is_ascii_digit() {
-        places + 1
-    } else {
-        places
-    }
-}
-
-/// A number below 10^18 with one more decimal digit; other characters add none.
-#[inline(always)]
-fn short_with_digit(n: u64, c: char) -> u64
-    requires { n < 10 ^ 18 }
-    ensures { result ≡ with_digit 10 n c }
-{
-    match c.to_digit(10) {
-        Some(digit) => n * 10 + digit as u64,
-        None => n,
-    }
-}
-
-/// Whether a byte that is no digit goes on with a mantissa on the same side of its point.
-#[inline(always)]
-fn goes_on(pointed: bool, byte: u8) -> bool
-    ensures { OnTrue result (GoesOn pointed byte) }
-{
-    byte == b'_' || pointed && byte == b'.'
-}
-
-/// A mantissa of at most 18 bytes, read on from a number and so many digits after the point, on one
-/// side of the point: the number, the digits after the point, and what follows.
-#[inline(always)]
-fn read_side(pointed: bool, bytes: &[u8], before: u64, count: usize) -> (u64, usize, &[u8])
-    requires few { count + length bytes.now ≤ 18 }
-    requires small { before < 10 ^ (18 - length bytes.now) }
-    ensures { ReadsSide pointed bytes.now before count result.0 result.1 result.2.now }
-{
-    let mut value = before;
-    let mut places = count;
-    let mut rest = bytes;
-    while let Some((byte, after)) = rest.split_first() {
-        let byte = *byte;
-        if byte.is_ascii_digit() {
-            value = short_with_digit(value, byte as char);
-            places = places_with(pointed, places, byte as char);
-        } else if !goes_on(pointed, byte) {
-            return (value, places, rest);
-        }
-        rest = after;
-    }
-    (value, places, rest)
-}
-
-/// The same from the point on, if it comes next.
-#[inline(always)]
-fn read_part(bytes: &[u8], before: u64, count: usize) -> (u64, usize, &[u8])
-    requires few { count + length bytes.now ≤ 18 }
-    requires small { before < 10 ^ (18 - length bytes.now) }
-    ensures { ReadsPart bytes.now before count result.0 result.1 result.2.now }
-{
-    let Some((byte, after)) = bytes.split_first() else {
-        return (before, count, bytes);
-    };
-    if *byte != b'.' {
-        return (before, count, bytes);
-    }
-    read_side(true, after, before, count)
-}
-
-/// Whether a mantissa doesn't go on with these bytes, as far as bytes of ASCII say.
-#[inline(always)]
-fn ends_mantissa(rest: &[u8]) -> bool
-    ensures { OnTrue result (EndsMantissa rest.now) }
-{
-    let Some((byte, _)) = rest.split_first() else {
-        return true;
-    };
-    *byte < 128 && !is_mantissa(*byte as char)
-}
-
-/// A mantissa in a text of at most 18 bytes; `None` before a character that isn't of ASCII.
-#[inline(always)]
-fn short_mantissa(text: &str) -> Option<(u128, usize, &str)>
-    requires { length text.now ≤ 18 }
-    ensures { IfSome result (λ p. IsMantissa text.now p.0 p.1 p.2.now) }
-{
-    let (whole, count, point) = read_side(false, text.as_bytes(), 0, 0);
-    let (value, places, rest) = read_part(point, whole, count);
-    if !ends_mantissa(rest) {
-        return None;
-    }
-    let (_, left) = text.split_at(text.len() - rest.len());
-    Some((value as u128, places, left))
-}
-
-/// A mantissa in a text of any length, character by character.
-fn long_mantissa(text: &str) -> (u128, usize, &str)
-    ensures { IsMantissa text.now result.0 result.1 result.2.now }
-{
-    let _count = text.len();
-    let mut value = 0;
-    let mut places = 0;
-    let mut pointed = false;
-    let mut ahead = text.chars();
-    let mut rest = text;
-    while let Some(c) = ahead.next() {
-        if !is_mantissa(c) {
-            return (value, places, rest);
-        }
-        value = with_digit(CAP, 10, value, c);
-        places = places_with(pointed, places, c);
-        pointed = pointed | (c == '.');
-        rest = ahead.as_str();
-    }
-    (value, places, rest)
-}
-
-/// A mantissa: its digits as a number, cut to `CAP`, how many of them stand after the point, and
-/// what follows it.
-#[inline(always)]
-fn read_mantissa(text: &str) -> (u128, usize, &str)
-    ensures { IsMantissa text.now result.0 result.1 result.2.now }
-{
-    if text.len() <= 18 {
-        if let Some(found) = short_mantissa(text) {
-            return found;
-        }
-    }
-    long_mantissa(text)
-}
-
 /// The size of the exponent in what follows a mantissa, cut to `EXPONENT_CAP`.
+#[inline(always)]
 fn exponent(rest: &str) -> u128
     ensures { result ≡ min (value_of 10 (chars rest.now)) EXPONENT_CAP }
 {
-    rest.chars()
-        .fold(0, |n, c| with_digit(EXPONENT_CAP, 10, n, c))
+    decimal_word(rest).min(EXPONENT_CAP) as u128
 }
 
 /// Whether a minus stands before the exponent in what follows a mantissa.
@@ -401,18 +124,71 @@ fn shifted(text: &str, value: u128, up: u128, down: u128) -> u128
     }
 }
 
-/// A number without its unit times 10^17, cut to a whole number and to `CAP`.
-fn scaled(text: &str) -> u128
-    requires { length (chars text.now) ≤ longest_source }
+/// A number without its unit times 10^17, cut to a whole number and to `CAP`, of which the mantissa
+/// was read.
+fn scaled(text: &str, value: u128, places: usize, rest: &str) -> u128
+    requires short { length (chars text.now) ≤ longest_source }
+    requires mantissa { IsMantissa text.now value places rest.now }
     ensures { result ≡ min (scaled (chars text.now)) CAP }
 {
-    let (value, places, rest) = read_mantissa(text);
     let places = places as u128;
     let exponent = exponent(rest);
     if has_minus(rest) {
         shifted(text, value, 17, places + exponent)
     } else {
         shifted(text, value, 17 + exponent, places)
+    }
+}
+
+/// The same number cut to 17 decimals; `None` where it is past its limit.
+fn scaled_cut(text: &str, value: u128, places: usize, rest: &str) -> Option<Frac>
+    requires short { length (chars text.now) ≤ longest_source }
+    requires mantissa { IsMantissa text.now value places rest.now }
+    ensures { MatchOption result (IsWide (pos (scaled (chars text.now))) (pos (10 ^ 17)))
+        (λ f. IsCutOf (chars text.now) f) }
+{
+    let value = scaled(text, value, places, rest);
+    if value == CAP {
+        return None;
+    }
+    match Frac::of(value as i128, SCALE) {
+        Ok(number) => Some(number),
+        Err(_) => None,
+    }
+}
+
+/// How many decimals a number has, by its mantissa's places and what follows the mantissa. `None` of
+/// one with more than 17, and of one with an exponent above 0.
+#[inline(always)]
+fn decimals(places: usize, rest: &str) -> Option<u128>
+    ensures { IfSome result (λ count. HasDecimals places (chars rest.now) count) }
+{
+    let exponent = exponent(rest);
+    if exponent > 0 && !has_minus(rest) {
+        return None;
+    }
+    if places > 17 || exponent > 17 {
+        return None;
+    }
+    let count = places as u128 + exponent;
+    if count > 17 { None } else { Some(count) }
+}
+
+/// A number of so many decimals, whose digits are a number below `CAP`, as a fraction; `None` where
+/// it is past its limit.
+#[inline(always)]
+fn uncut(value: u128, decimals: u128) -> Option<Frac>
+    requires value { value < 10 ^ 36 }
+    requires decimals { decimals ≤ 17 }
+    ensures { MatchOption result (IsWide (pos (value * 10 ^ (17 - decimals))) (pos (10 ^ 17)))
+        (λ f. IsFrac (pos (value * 10 ^ (17 - decimals))) (pos (10 ^ 17)) f) }
+{
+    if value < WHOLE_LIMIT && (decimals == 0 || value == 0) {
+        return Some(Frac::whole(value as i32));
+    }
+    match Frac::of(value as i128, power_of_ten(decimals) as i128) {
+        Ok(number) => Some(number),
+        Err(_) => None,
     }
 }
 
@@ -423,13 +199,10 @@ fn cut(text: &str) -> Option<Frac>
     ensures { MatchOption result (IsWide (pos (scaled (chars text.now))) (pos (10 ^ 17)))
         (λ f. IsCutOf (chars text.now) f) }
 {
-    let value = scaled(text);
-    if value == CAP {
-        return None;
-    }
-    match Frac::of(value as i128, SCALE) {
-        Ok(number) => Some(number),
-        Err(_) => None,
+    let (value, places, rest) = read_mantissa(text);
+    match decimals(places, rest) {
+        Some(count) if value < CAP => uncut(value, count),
+        _ => scaled_cut(text, value, places, rest),
     }
 }
 

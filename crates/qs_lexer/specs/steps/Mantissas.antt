@@ -1,8 +1,9 @@
 -- How a mantissa is read, character by character or byte by byte. This project's own.
-use Rattle.std.specs.Prelude.{◌≡◌, ℕ, ◌+◌, ◌-◌, ◌<◌, ◌≤◌, ◌^◌, List, [], Bool, true, false, ◌&&◌, ◌||◌, if◌then◌else◌, nat_eq, length, min}
+use Rattle.std.specs.Prelude.{◌≡◌, ◌⊎◌, ℕ, ◌+◌, ◌-◌, ◌<◌, ◌≤◌, ◌^◌, List, [], Bool, true, false, ◌&&◌, ◌||◌, if◌then◌else◌, nat_eq, length, min, drop}
 use Rattle.std.specs.Char.{is_ascii_digit}
 use Rattle.std.specs.List.{count_by, fold}
 use Rattle.std.specs.Str.{chars}
+use Rattle.qs_lexer.specs.Forms.{begins}
 use Rattle.qs_lexer.specs.Values.{behind_mantissa, is_mantissa, mantissa, places, value_of, with_digit}
 use Rattle.qs_lexer.specs.steps.Scan.{IsBehind}
 
@@ -56,3 +57,9 @@ ReadsPart bytes before count value places_read rest = (onto : Bool) × ReadsUpTo
 pub record EndsMantissa (rest : List ℕ) : Type 0 where
   pub none : mantissa (chars rest) ≡ []
   pub behind : behind_mantissa (chars rest) ≡ chars rest
+
+-- A number has so many decimals, by its mantissa's places and what follows the mantissa: no exponent, or one that isn't above 0.
+pub record HasDecimals (places_read : ℕ) (rest : List ℕ) (count : ℕ) : Type 0 where
+  pub few : count ≤ 17
+  pub sum : count ≡ places_read + value_of 10 rest
+  pub below : (value_of 10 rest ≡ 0) ⊎ (begins (nat_eq 45) (drop 1 rest) ≡ true)

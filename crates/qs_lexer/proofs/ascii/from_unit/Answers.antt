@@ -1,8 +1,0 @@
-use Rattle.qs_lexer.specs.declared.state.State.TheVariants.{Ended}
-use Rattle.qs_lexer.proofs.AsciiRuns.{to_end}
-use Rattle.qs_lexer.proofs.ascii.from_unit.Goals as goal
-
-pub returns-in-Nothing : goal.returns-in-Nothing
-returns-in-Nothing c =
-    let on = c.in_ok-next in
-    to_end c.args.first c.args.bytes.now (Ended c.args.unit) on.next c.args.in_line on.line on.after.now on.ensures c.in-Nothing.is _ c.piece_before.ensures
