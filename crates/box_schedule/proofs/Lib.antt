@@ -3,4 +3,3 @@ pub mod PlacementLemmas
 pub mod ClockLemmas
 pub mod EarliestLemmas
 pub mod StepLemmas
-pub mod TestLemmas

@@ -4,8 +4,6 @@
 mod block;
 mod placing;
 mod refusal;
-#[cfg(test)]
-mod tests;
 
 pub use block::{Placed, TBlock, TOp};
 pub use placing::schedule;

@@ -3,4 +3,3 @@ pub mod StartLemmas
 pub mod SweepLemmas
 pub mod StepLemmas
 pub mod OverLemmas
-pub mod ExampleLemmas

@@ -1,4 +1,3 @@
 pub mod Core
 pub mod Reached
 pub mod Laws
-pub mod examples

@@ -3,8 +3,6 @@
 
 mod laws;
 mod picks;
-#[cfg(test)]
-mod tests;
 
 pub use laws::{every_order_is_the_run, runs_once};
 pub use picks::{Core, Counts, Stepped};

@@ -39,6 +39,13 @@ impl<W: Write + Drop> StreamSink<W> {
     {
         StreamSink { writer, faults: 0 }
     }
+
+    /// How many faults it had.
+    pub fn faults(&self) -> u64
+        ensures { result ≡ self.now.faults }
+    {
+        self.faults
+    }
 }
 
 /// Writes a front of a piece, of at least one byte. `None`, and nothing is written, where the writer
@@ -113,6 +120,23 @@ impl<R: Files + Drop> FileShelf<R> {
             failed: None,
         }
     }
+
+    /// How many faults it had.
+    pub fn faults(&self) -> u64
+        ensures { result ≡ self.now.faults }
+    {
+        self.faults
+    }
+
+    /// The name that the last fault was of, and no text where there was none.
+    pub fn failed(&self) -> &str
+        ensures { result.now ≡ self.now.failed }
+    {
+        match &self.failed {
+            Some(name) => name.as_str(),
+            None => "",
+        }
+    }
 }
 
 impl<R: Files + Drop> Shelf for FileShelf<R> {
@@ -146,7 +170,7 @@ fn taken_of<R: Files>(files: &R, alloc: Global, name: &str, limit: u32) -> Resul
 
 /// All bytes that a reader has, or `Longer` where they are more than the limit. A read that was
 /// interrupted is tried again. `Memory` comes only where the bytes find no room.
-fn read_taken<R: Read + Drop>(reader: R, alloc: Global, limit: u32) -> Result<Taken, TakeFault>
+pub fn read_taken<R: Read + Drop>(reader: R, alloc: Global, limit: u32) -> Result<Taken, TakeFault>
     ensures { IfOk result (λ taken. ReadsAll (R.remaining reader) limit taken) }
 {
     let mut reader = reader;
@@ -168,94 +192,4 @@ fn read_taken<R: Read + Drop>(reader: R, alloc: Global, limit: u32) -> Result<Ta
         }
     }
     Err(TakeFault::Failed)
-}
-
-#[cfg(test)]
-mod tests {
-    use super::*;
-    use std::io;
-    use std::test::Fail;
-
-    /// Is interrupted once, takes `left` bytes, one at a time, and then nothing, and then fails.
-    #[derive(Drop)]
-    struct Slow {
-        is_interrupted: bool,
-        left: u8,
-        is_broken: bool,
-    }
-
-    impl Write for Slow {
-        fn write(&mut self, bytes: &[u8]) -> io::Result<usize> {
-            if self.is_interrupted {
-                self.is_interrupted = false;
-                return Err(io::Error::from(ErrorKind::Interrupted));
-            }
-            if self.is_broken {
-                return Err(io::Error::from(ErrorKind::BrokenPipe));
-            }
-            if self.left == 0 || bytes.is_empty() {
-                self.is_broken = true;
-                return Ok(0);
-            }
-            self.left -= 1;
-            Ok(1)
-        }
-
-        fn flush(&mut self) -> io::Result<()> {
-            Ok(())
-        }
-    }
-
-    #[test]
-    fn counts_what_the_writer_refuses(rt: HostRuntime) {
-        let writer = Slow {
-            is_interrupted: true,
-            left: 2,
-            is_broken: false,
-        };
-        let mut sink = StreamSink::new(writer);
-        assert_eq!(rt; sink.put(b""), Ok(0));
-        assert_eq!(rt; sink.put(b"abc"), Ok(1));
-        assert_eq!(rt; sink.put(b"bc"), Ok(1));
-        assert_eq!(rt; sink.faults, 0);
-        assert_eq!(rt; sink.put(b"c"), Err(PutFailed));
-        assert_eq!(rt; sink.put(b"c"), Err(PutFailed));
-        assert_eq!(rt; sink.faults, 2);
-    }
-
-    /// Fails as if memory were out.
-    #[derive(Drop)]
-    struct Broken;
-
-    impl Read for Broken {
-        fn read(&mut self, _: &mut [u8]) -> io::Result<usize> {
-            Err(io::Error::from(ErrorKind::OutOfMemory))
-        }
-    }
-
-    #[test]
-    fn tells_no_error_of_a_reader_as_out_of_memory(rt: HostRuntime) {
-        assert!(rt; matches!(read_taken(Broken, rt.alloc(), 9), Err(TakeFault::Failed)));
-    }
-
-    #[test]
-    fn reads_files_up_to_the_limit(rt: HostRuntime) -> Result<(), Fail> {
-        let alloc = rt.alloc();
-        let mut shelf = FileShelf::new(rt.clone()?);
-        fs::write(&rt, "shelf.txt", "abc")?;
-        let whole = shelf.take(alloc, "shelf.txt", 3);
-        let longer = shelf.take(alloc, "shelf.txt", 2);
-        fs::remove_file(&rt, "shelf.txt")?;
-        assert!(rt;
-            matches!(&whole, Ok(Taken::Whole(bytes)) if bytes.as_slice() == b"abc".as_slice())
-        );
-        assert!(rt; matches!(longer, Ok(Taken::Longer)));
-        assert_eq!(rt; shelf.faults, 0);
-        for (count, name) in [(1, "shelf.txt"), (2, ".")] {
-            assert!(rt; matches!(shelf.take(alloc, name, 9), Err(TakeFault::Failed)));
-            assert_eq!(rt; shelf.faults, count);
-            assert_eq!(rt; shelf.failed.as_ref().map(Name::as_str), Some(name));
-        }
-        Ok(())
-    }
 }

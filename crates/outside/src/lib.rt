@@ -9,7 +9,7 @@ mod shelf;
 mod sink;
 mod text;
 
-pub use adapters::{FileShelf, StreamSink};
+pub use adapters::{FileShelf, StreamSink, read_taken};
 pub use memory_shelf::{Kept, MemoryShelf};
 pub use memory_sink::MemorySink;
 pub use shelf::{Shelf, TakeFault, Taken};

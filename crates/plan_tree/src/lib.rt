@@ -6,8 +6,6 @@ mod frame;
 mod laws;
 mod part;
 mod plan;
-#[cfg(test)]
-mod tests;
 mod weighing;
 
 pub use frame::FrameState;

@@ -18,8 +18,6 @@ mod quotients;
 mod refusal;
 mod shifts;
 mod sums;
-#[cfg(test)]
-mod tests;
 mod unary;
 mod whole;
 mod without_value;

@@ -13,8 +13,6 @@ mod refusal;
 mod scan;
 mod shape;
 mod state;
-#[cfg(test)]
-mod tests;
 mod token;
 mod value;
 

@@ -3,11 +3,7 @@
 #![tactic(auto)]
 
 mod builtin;
-#[cfg(test)]
-mod cases;
 mod controllers;
-#[cfg(test)]
-mod examples;
 mod families;
 mod forms;
 mod frames;
@@ -18,8 +14,6 @@ mod ports;
 mod refusal;
 mod table;
 mod tape;
-#[cfg(test)]
-mod tests;
 mod waveforms;
 
 pub use laws::read_once;

@@ -17,8 +17,6 @@ mod replacement;
 mod source;
 mod statement;
 mod substitution;
-#[cfg(test)]
-mod tests;
 mod text;
 
 pub use assign::AssignOp;

@@ -13,8 +13,6 @@ mod refusal;
 mod span;
 mod stretch;
 mod tape;
-#[cfg(test)]
-mod tests;
 mod word;
 
 pub use angle::to_angle;

@@ -1,6 +1,0 @@
-use Rattle.std.proofs.Common.{All}
-use Rattle.box_schedule.specs.Placement.{IsPlain}
-use Rattle.box_schedule.proofs.tests.make_block.Given as goal
-
-abbrev pub invariant-loop-group : goal.invariant-loop-group
-invariant-loop-group g l = All IsPlain l.ops.items

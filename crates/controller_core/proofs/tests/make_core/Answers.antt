@@ -1,4 +1,0 @@
-use Rattle.controller_core.proofs.tests.make_core.Goals as goal
-
-pub new-requires-clause-sound : goal.new-requires-clause-sound
-new-requires-clause-sound c = rw c.in_ok-plan.ensures c.example_is_sound.ensures.sound
