@@ -123,9 +123,7 @@ fn reads_files_up_to_the_limit(rt: HostRuntime) -> Result<(), Fail> {
     let whole = shelf.take(alloc, "shelf.txt", 3);
     let longer = shelf.take(alloc, "shelf.txt", 2);
     fs::remove_file(&rt, "shelf.txt")?;
-    assert!(rt;
-        matches!(&whole, Ok(Taken::Whole(bytes)) if bytes.as_slice() == b"abc".as_slice())
-    );
+    assert!(rt; matches!(&whole, Ok(Taken::Whole(bytes)) if bytes.as_slice() == b"abc".as_slice()));
     assert!(rt; matches!(longer, Ok(Taken::Longer)));
     assert_eq!(rt; shelf.faults(), 0);
     for (count, name) in [(1, "shelf.txt"), (2, ".")] {
@@ -136,12 +134,7 @@ fn reads_files_up_to_the_limit(rt: HostRuntime) -> Result<(), Fail> {
     Ok(())
 }
 
-fn keep(
-    files: &mut List<Kept>,
-    alloc: Global,
-    name: &str,
-    bytes: &[u8],
-) -> Result<(), AllocError> {
+fn keep(files: &mut List<Kept>, alloc: Global, name: &str, bytes: &[u8]) -> Result<(), AllocError> {
     files.push(Kept {
         name: Name::copy_of(alloc, name)?,
         bytes: List::from_vec(Vec::from_slice(alloc, bytes)?),

@@ -93,7 +93,6 @@ end 50 done
     Ok(())
 }
 
-
 fn make_words(alloc: Global, texts: &[&str]) -> Result<List<Name>, AllocError> {
     let mut words = List::new(alloc);
     for text in texts {
