@@ -4,15 +4,9 @@ use outside::{
 };
 use qs_values::{List, Name};
 use std::alloc::{AllocError, Global};
-use std::fmt::Debug;
 use std::fs;
 use std::io::{self, ErrorKind, Read, Write};
 use std::test::Fail;
-
-/// Whether a value's last fields are these, as it is written for a programmer.
-fn ends_in<T: Debug>(alloc: Global, value: &T, fields: &str) -> Result<bool, Fail> {
-    Ok(format!(in alloc; "{value:?}")?.ends_with(fields))
-}
 
 #[test]
 fn takes_texts_until_it_is_full(rt: HostRuntime) -> Result<(), Fail> {
@@ -28,7 +22,7 @@ fn takes_texts_until_it_is_full(rt: HostRuntime) -> Result<(), Fail> {
     assert_eq!(rt; page.finish(&mut sink), Err(PutFailed));
     assert_eq!(rt; sink.bytes(), b"abcd, 12".as_slice());
     assert_eq!(rt; sink.put(b""), Ok(0));
-    assert!(rt; ends_in(rt.alloc(), &sink, "faults: 1 }")?);
+    assert_eq!(rt; sink.faults(), 1);
     Ok(())
 }
 
@@ -45,9 +39,9 @@ fn puts_long_texts_and_nothing_after_a_fault(rt: HostRuntime) -> Result<(), Fail
     assert_eq!(rt; sink.bytes().len(), 139_999);
     page.text(&mut sink, b"de");
     page.text(&mut sink, last.as_slice());
-    assert!(rt; ends_in(rt.alloc(), &sink, "faults: 1 }")?);
+    assert_eq!(rt; sink.faults(), 1);
     assert_eq!(rt; page.finish(&mut sink), Err(PutFailed));
-    assert!(rt; ends_in(rt.alloc(), &sink, "faults: 1 }")?);
+    assert_eq!(rt; sink.faults(), 1);
     assert_eq!(rt; sink.bytes().len(), 140_000);
     assert_eq!(rt; sink.bytes().last(), Some(&b'd'));
     Ok(())
@@ -172,6 +166,6 @@ fn takes_the_first_file_of_a_name(rt: HostRuntime) -> Result<(), Fail> {
         }
     }
     let last = r#"calls: 5, faults: 2, failed: Some(Name { held: "gates" }) }"#;
-    assert!(rt; ends_in(alloc, &shelf, last)?);
+    assert!(rt; format!(in alloc; "{shelf:?}")?.ends_with(last));
     Ok(())
 }

@@ -55,6 +55,13 @@ impl MemorySink {
     {
         self.held.as_slice()
     }
+
+    /// How many faults it had.
+    pub fn faults(&self) -> u64
+        ensures { result ≡ self.now.faults }
+    {
+        self.faults
+    }
 }
 
 impl Sink for MemorySink {
