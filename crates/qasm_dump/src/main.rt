@@ -5,8 +5,6 @@ mod lexed;
 mod output;
 mod parsed;
 mod signs;
-#[cfg(test)]
-mod tests;
 mod tokens;
 mod top;
 mod trees;
