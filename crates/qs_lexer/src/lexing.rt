@@ -160,17 +160,28 @@ fn take_next<'a>(
         (λ p. TakesNext first place text.now tokens.old tokens.new p.0 p.1 p.2.now)
         (λ refusal. FailsNext first place text.now tail.now (length tokens.old) refusal) }
 {
-    if let Some(piece) = spacing(first, text) {
-        return take(alloc, tokens, place, first, text, tail, piece);
-    }
-    if let Some(piece) = single_sign(first, text) {
-        return take(alloc, tokens, place, first, text, tail, piece);
-    }
-    if let Some(piece) = plain_word(first, text) {
-        return take(alloc, tokens, place, first, text, tail, piece);
-    }
-    if let Some(piece) = line_feed(first, text) {
-        return take(alloc, tokens, place, first, text, tail, piece);
+    match text.as_bytes().first() {
+        Some(b' ' | b'\t' | b'\r') => {
+            if let Some(piece) = spacing(first, text) {
+                return take(alloc, tokens, place, first, text, tail, piece);
+            }
+        }
+        Some(b'(' | b')' | b'[' | b']' | b'{' | b'}' | b':' | b';' | b',' | b'~') => {
+            if let Some(piece) = single_sign(first, text) {
+                return take(alloc, tokens, place, first, text, tail, piece);
+            }
+        }
+        Some(b'a'..=b'z' | b'A'..=b'Z' | b'_') => {
+            if let Some(piece) = plain_word(first, text) {
+                return take(alloc, tokens, place, first, text, tail, piece);
+            }
+        }
+        Some(b'\n') => {
+            if let Some(piece) = line_feed(first, text) {
+                return take(alloc, tokens, place, first, text, tail, piece);
+            }
+        }
+        _ => {}
     }
     match next_piece(first, text) {
         Some(piece) => take(alloc, tokens, place, first, text, tail, piece),

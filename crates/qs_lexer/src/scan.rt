@@ -116,6 +116,20 @@ pub fn plain_word(first: bool, text: &str) -> Option<Piece<'_>>
     Some(cut_off(first, text, found))
 }
 
+/// A physical qubit, a comment to the end of the line or a number in a form that is met often, where
+/// it and what comes next are of ASCII.
+#[inline(always)]
+fn common_piece(first: bool, bytes: &[u8]) -> Option<(Shape, usize, bool)>
+    ensures { IfSome result (λ p. IsAsciiPiece first bytes.now p.0 p.1 p.2) }
+{
+    match bytes.first()? {
+        b'0'..=b'9' => number(first, bytes),
+        b'$' => physical(first, bytes),
+        b'/' => line_comment(first, bytes),
+        _ => None,
+    }
+}
+
 /// The longest piece that begins a text.
 #[inline(always)]
 pub fn next_piece(first: bool, text: &str) -> Option<Piece<'_>>
@@ -123,13 +137,7 @@ pub fn next_piece(first: bool, text: &str) -> Option<Piece<'_>>
         (λ p. Begins first text.now p.shape p.text.now p.after.now) }
     ensures in_line { IfSome result (λ p. IsInLine p.in_line p.text.now) }
 {
-    if let Some(found) = physical(first, text.as_bytes()) {
-        return Some(cut_off(first, text, found));
-    }
-    if let Some(found) = line_comment(first, text.as_bytes()) {
-        return Some(cut_off(first, text, found));
-    }
-    if let Some(found) = number(first, text.as_bytes()) {
+    if let Some(found) = common_piece(first, text.as_bytes()) {
         return Some(cut_off(first, text, found));
     }
     match ascii_piece(first, text.as_bytes()) {
