@@ -86,7 +86,7 @@ fn is_printed(byte: u8) -> bool
     b' ' <= byte && byte <= b'~'
 }
 
-/// The bytes after printed ones, with which a piece stays in its line.
+/// The bytes after printed ones, with which a piece stays in its line, two a turn.
 #[inline(always)]
 fn past_printed(bytes: &[u8]) -> &[u8]
     ensures { IsPast LineState bytes.now result.now }
@@ -96,7 +96,13 @@ fn past_printed(bytes: &[u8]) -> &[u8]
         if !is_printed(*byte) {
             return rest;
         }
-        rest = after;
+        let Some((second, behind)) = after.split_first() else {
+            return after;
+        };
+        if !is_printed(*second) {
+            return after;
+        }
+        rest = behind;
     }
     rest
 }
