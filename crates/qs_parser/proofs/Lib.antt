@@ -14,6 +14,7 @@ pub mod SoundLists
 pub mod SoundExprParts
 pub mod SoundPrimary
 pub mod SoundExpr
+pub mod Strengths
 pub mod SoundStmtParts
 pub mod SoundCalls
 pub mod SoundStanding

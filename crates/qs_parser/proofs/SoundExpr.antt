@@ -125,14 +125,14 @@ sound-unary (suc n) below d h left ts = sound-tight (Some (unary n below)) below
 -- ---- chains of operators of a level
 
 -- an operator, before which so many levels bind more tightly
-record IsBinOp (n : ℕ) (text : List ℕ) (op : BinOp) : Type 0 where
+pub record IsBinOp (n : ℕ) (text : List ℕ) (op : BinOp) : Type 0 where
   pub text_is : text ≡ sign_of_bin op
   pub level_is : level_of op + n ≡ 9
 
 one_of_them : (n k : ℕ) (text : List ℕ) (op : BinOp) → nat_eq n k ≡ true → level_of op + k ≡ 9 → bytes_eq text (sign_of_bin op) ≡ true → Holds (Some op) (IsBinOp n text)
 one_of_them n k text op e l t = holds_some op (record { text_is = same_text text (sign_of_bin op) t; level_is = omega (arith, eqb-true n k e, l) })
 
-bin_op_is : (n : ℕ) (text : List ℕ) → Holds (bin_op n text) (IsBinOp n text)
+pub bin_op_is : (n : ℕ) (text : List ℕ) → Holds (bin_op n text) (IsBinOp n text)
 bin_op_is n text =
     holds_if (nat_eq n 0) (λ k. holds_if (bytes_eq text (codes "*")) (λ e. one_of_them n 0 text Mul k refl e) (λ n1. holds_if (bytes_eq text (codes "/")) (λ e. one_of_them n 0 text Div k refl e) (λ n2. holds_if (bytes_eq text (codes "%")) (λ e. one_of_them n 0 text Rem k refl e) (λ n3. record { is = tt })))) (λ k0.
     holds_if (nat_eq n 1) (λ k. holds_if (bytes_eq text (codes "+")) (λ e. one_of_them n 1 text Add k refl e) (λ n1. holds_if (bytes_eq text (codes "-")) (λ e. one_of_them n 1 text Sub k refl e) (λ n2. record { is = tt }))) (λ k1.

@@ -1,5 +1,6 @@
 pub mod Tokens
 pub mod Expressions
+pub mod Strengths
 pub mod Statements
 pub mod Powers
 pub mod Knot

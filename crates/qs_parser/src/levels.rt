@@ -8,7 +8,7 @@ ghost use Rattle.qs_parser.specs.steps.Powers.{right_of};
 
 use crate::below::{Ask, Below, Read, Tree};
 use crate::expressions::primary;
-use crate::operators::{bin_op_at, un_op_at};
+use crate::operators::{bin_op_at, strength_at, un_op_at};
 use crate::stop::Stop;
 use crate::tokens::begins_sign;
 use qs_tree::{BinOp, Expr, ExprKind, UnOp};
@@ -183,15 +183,14 @@ fn binary<F: Fn(Ask) -> Result<Read<Tree>, Stop>>(
         mut left,
         mut at,
     } = unary(deeper, left, at)?;
+    let mut next = strength_at(deeper.tokens, at);
     for level in 0..levels {
-        match bin_op_at(level, deeper.tokens, at) {
-            Some(_) => {
-                let read = chained(deeper, level, item, left, at)?;
-                item = read.item;
-                left = read.left;
-                at = read.at;
-            }
-            None => {}
+        if next == level {
+            let read = chained(deeper, level, item, left, at)?;
+            item = read.item;
+            left = read.left;
+            at = read.at;
+            next = strength_at(deeper.tokens, at);
         }
     }
     Ok(Read { item, left, at })

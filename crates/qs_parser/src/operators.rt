@@ -1,6 +1,7 @@
 ghost use Rattle.std.specs.Prelude.{◌≡◌, drop};
 ghost use Rattle.std.specs.Option.{option_map};
 ghost use Rattle.qs_parser.specs.steps.Expressions.{bin_op, bin_op_at, un_op, un_op_at};
+ghost use Rattle.qs_parser.specs.steps.Strengths.{strength, strength_at};
 
 use qs_lexer::{Token, TokenKind};
 use qs_tree::{BinOp, UnOp};
@@ -67,6 +68,40 @@ pub fn bin_op(level: usize, text: &str) -> Option<BinOp>
         8 if text == "&&" => Some(BinOp::And),
         9 if text == "||" => Some(BinOp::Or),
         _ => None,
+    }
+}
+
+/// How many levels of operators bind more tightly than the one of a sign between two operands, or ten
+/// of any other sign. Signs that end an expression come first: most expressions have no operator.
+fn strength(text: &str) -> usize
+    ensures { result ≡ strength text.now }
+{
+    match text {
+        ")" | "," | ";" | "]" => 10,
+        "*" | "/" | "%" => 0,
+        "+" | "-" => 1,
+        "<<" | ">>" => 2,
+        "<" | "<=" | ">" | ">=" => 3,
+        "==" | "!=" => 4,
+        "&" => 5,
+        "^" => 6,
+        "|" => 7,
+        "&&" => 8,
+        "||" => 9,
+        _ => 10,
+    }
+}
+
+/// The same of the token at a place.
+pub fn strength_at(tokens: &[Token], at: usize) -> usize
+    ensures { result ≡ strength_at (drop at tokens.now) }
+{
+    match tokens.get(at) {
+        Some(token) => match token.kind {
+            TokenKind::Sign => strength(token.text.as_str()),
+            _ => 10,
+        },
+        None => 10,
     }
 }
 

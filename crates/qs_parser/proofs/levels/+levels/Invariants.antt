@@ -1,6 +1,7 @@
 use Rattle.std.proofs.Common.{◌≡◌, ◌+◌, ◌-◌, ◌*◌, Some, drop, length}
 use Rattle.qs_parser.specs.steps.Knot.{below}
 use Rattle.qs_parser.specs.steps.Expressions.{binary, chained}
+use Rattle.qs_parser.specs.steps.Strengths.{strength_at}
 use Rattle.qs_parser.proofs.levels.+levels.Given as goal
 
 abbrev pub decreases-binary : goal.decreases-binary
@@ -16,4 +17,5 @@ invariant-chained-loop-turn g l =
 
 abbrev pub invariant-binary-loop-level : goal.invariant-binary-loop-level
 invariant-binary-loop-level g l =
-    binary l.level (below l.deeper.depth) l.fn.left (drop l.fn.at l.deeper.tokens.now) ≡ Some (l.item, l.left, drop l.at l.deeper.tokens.now)
+    (binary l.level (below l.deeper.depth) l.fn.left (drop l.fn.at l.deeper.tokens.now) ≡ Some (l.item, l.left, drop l.at l.deeper.tokens.now))
+    × (l.next ≡ strength_at (drop l.at l.deeper.tokens.now))
