@@ -18,6 +18,7 @@ use plan_tree::{Block, Deed, Event, Plan, PlanStmt, plays_stay_apart};
 use qs_machine::{Machine, Port};
 use qs_values::{Affine, FrameStart, Halt, List, Memory, Name, Span};
 use std::alloc::{AllocError, Global};
+use std::mem::forget;
 
 /// An operation of constant length outside boxes.
 fn op_of(
@@ -220,6 +221,7 @@ pub fn plan_of(
         Err(refusal) => return Err(halt_of(alloc, &refusal)),
     };
     let body = body_of(alloc, &gates, statements, &placed)?;
+    forget(block);
     Ok(Plan {
         vars: List::new(alloc),
         inputs: List::new(alloc),

@@ -11,6 +11,7 @@ use qs_parser::parse;
 use qs_tree::{Call, Expr, ExprKind, Operand, Stmt, StmtKind};
 use qs_values::{Frac, Halt, List};
 use std::alloc::{AllocError, Global};
+use std::mem::forget;
 
 /// The code of what is OpenQASM, but isn't built yet.
 const NOT_BUILT: u16 = 199;
@@ -263,6 +264,8 @@ fn read_statements(alloc: Global, stmts: &[Stmt], most: u32) -> Result<List<Loca
 /// it has none, with those of its tokens where they have no tree, with the word for 113; else with the
 /// code of what isn't built and the place of the first statement that isn't, or that is one too many.
 /// `Halt::Memory` where out of memory.
+///
+/// The memory of the tokens and of the tree is kept to the end of the program, which comes soon.
 pub fn read(alloc: Global, source: &[u8]) -> Result<List<LocatedStatement>, Halt>
     requires { length source.now ≤ longest_file_bytes }
     ensures reads { Reads source.now result }
@@ -273,8 +276,14 @@ pub fn read(alloc: Global, source: &[u8]) -> Result<List<LocatedStatement>, Halt
         Ok(tokens) => tokens,
         Err(fault) => return Err(halt_of(alloc, &fault)),
     };
-    match parse(alloc, tokens.as_slice()) {
-        Ok(tree) => read_statements(alloc, tree.body.as_slice(), MOST_STATEMENTS),
+    let parsed = parse(alloc, tokens.as_slice());
+    forget(tokens);
+    match parsed {
+        Ok(tree) => {
+            let statements = read_statements(alloc, tree.body.as_slice(), MOST_STATEMENTS);
+            forget(tree);
+            statements
+        }
         Err(refusal) => Err(malformed_halt(alloc, refusal)),
     }
 }
