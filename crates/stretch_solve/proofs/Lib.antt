@@ -1,0 +1,16 @@
+pub mod IntLemmas
+pub mod ExpansionLemmas
+pub mod CofactorLemmas
+pub mod KeepLemmas
+pub mod ManyLemmas
+pub mod OnlyLemmas
+pub mod BoundLemmas
+pub mod PlaceLemmas
+pub mod TakeLemmas
+pub mod ExpandLemmas
+pub mod NextLemmas
+pub mod StartLemmas
+pub mod StandLemmas
+pub mod WriteLemmas
+pub mod ReadLemmas
+pub mod OnceLemmas

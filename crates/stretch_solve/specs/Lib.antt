@@ -1,0 +1,4 @@
+pub mod steps
+pub mod Codes
+pub mod Solutions
+pub mod Once
